@@ -1,0 +1,4 @@
+pub mod Columns
+pub mod Index
+pub mod Faults
+pub mod Laid

@@ -1,0 +1,9 @@
+pub mod States
+pub mod Ranks
+pub mod Rows
+pub mod Picks
+pub mod Walks
+pub mod Stands
+pub mod Ties
+pub mod Told
+pub mod Searched

@@ -1,0 +1,16 @@
+-- What a search's fault is told as: its number, and the node where one is named.
+use Prim.Native.Nat.{ℕ}
+use Rattle.plant.specs.declared.refusal.Refusal.{Refusal}
+use Rattle.plant.specs.declared.refusal.Layer.the-variants.{Search}
+use Rattle.search.specs.declared.fault.SearchFault.{SearchFault}
+use Rattle.search.specs.declared.fault.SearchFault.the-variants.{Start, Goal, Rows, Queue, Route}
+
+abbrev told : ℕ → ℕ → Refusal
+told n place = record { number = n; layer = Search; first = place; second = 0 }
+
+abbrev pub refusal-of : SearchFault → Refusal
+refusal-of (Start v) = told 7 v
+refusal-of (Goal v) = told 7 v
+refusal-of Rows = told 8 0
+refusal-of Queue = told 8 0
+refusal-of Route = told 8 0
