@@ -1,0 +1,4 @@
+pub mod FloorFacts
+pub mod LayerFacts
+pub mod Among
+pub mod ShiftFacts

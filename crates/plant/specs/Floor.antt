@@ -1,7 +1,7 @@
 -- What a plant means: a count of nodes, a list of lanes, and a bound for each pair of nodes; and the laws of that.
 use mathlib.Core.Path.{_≡_}
 use mathlib.Core.Bool.{true, cond}
-use mathlib.Core.List.{List, [], _∷_}
+use mathlib.Core.List.{List, [], _∷_, map}
 use mathlib.Core.Logic.{_⊎_}
 use Prim.Native.Nat.{ℕ, suc, _<_, _≤_}
 use lib.Dec.{eqb}
@@ -39,3 +39,14 @@ out-of f v = at-from (λ l. l .tail) 0 (f .lanes) v
 
 abbrev pub into-of : {C : Type 0} → Floor C → ℕ → List ℕ
 into-of f v = at-from (λ l. l .head) 0 (f .lanes) v
+
+abbrev pub turn : {C : Type 0} → Lane C → Lane C
+turn l = record { tail = l .head; head = l .tail; cost = l .cost }
+
+-- every lane and every bound the other way round
+abbrev pub turned : {C : Type 0} → Floor C → Floor C
+turned f = record { nodes = f .nodes; lanes = map turn (f .lanes); bound = λ v w. f .bound w v }
+
+-- the same lanes, and every bound zero
+abbrev pub blinded : {C : Type 0} → Kind C → Floor C → Floor C
+blinded k f = record { nodes = f .nodes; lanes = f .lanes; bound = λ v w. k .zero }

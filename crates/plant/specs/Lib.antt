@@ -1,1 +1,4 @@
 pub mod Floor
+pub mod Walk
+pub mod Closed
+pub mod Shifted

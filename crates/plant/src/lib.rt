@@ -1,5 +1,6 @@
-// Plants: what a floor to be searched answers and means, and how a refusal is told.
+// Plants: what a floor to be searched answers and means, layers over any plant, and how a refusal is told.
 pub mod lane;
+pub mod layers;
 pub mod lent;
 pub mod plant;
 pub mod refusal;

@@ -1,0 +1,9 @@
+pub mod Passing
+pub mod Lawful
+pub mod Counted
+pub mod Rising
+pub mod Groups
+pub mod Lanes
+pub mod Ends
+pub mod Bounds
+pub mod LaidLaws

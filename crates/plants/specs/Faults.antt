@@ -77,21 +77,21 @@ table-fault nodes c m (suc n) =
 abbrev pub plant-fault : ℕ → ℕ → Columns → Option PlantFault
 plant-fault nodes landmarks c =
     cond (counts-fit nodes (lane-count c) landmarks)
-      (cond (lengths-fit nodes landmarks c)
-        (or-else (λ k. Ends k) (first-failing (ends-fit nodes (c .tails) (c .heads)) 0 (lane-count c))
-          (or-else (λ k. Cost k) (first-failing (cost-fits (c .costs)) 0 (lane-count c))
-            (cond (index-fits nodes c) (table-fault nodes c 0 landmarks) (Some Index))))
-        (Some Lengths))
-      (Some Counts)
+    (cond (lengths-fit nodes landmarks c)
+    (or-else (λ k. Ends k) (first-failing (ends-fit nodes (c .tails) (c .heads)) 0 (lane-count c))
+    (or-else (λ k. Cost k) (first-failing (cost-fits (c .costs)) 0 (lane-count c))
+    (cond (index-fits nodes c) (table-fault nodes c 0 landmarks) (Some Index))))
+    (Some Lengths))
+    (Some Counts)
 
 -- the same for the lists that the index is made from, and the lengths of the three lists that it is written to
 abbrev pub index-fault : ℕ → List ℕ → List ℕ → ℕ → ℕ → ℕ → Option PlantFault
 index-fault nodes tails heads outs ins by =
     cond (counts-fit nodes (length tails) 0)
-      (cond (index-lengths-fit nodes (length tails) (length heads) outs ins by)
-        (or-else (λ k. Ends k) (first-failing (ends-fit nodes tails heads) 0 (length tails)) None)
-        (Some Lengths))
-      (Some Counts)
+    (cond (index-lengths-fit nodes (length tails) (length heads) outs ins by)
+    (or-else (λ k. Ends k) (first-failing (ends-fit nodes tails heads) 0 (length tails)) None)
+    (Some Lengths))
+    (Some Counts)
 
 abbrev pub is-none : Option PlantFault → Bool
 is-none None = true

@@ -2,5 +2,4 @@
 pub mod fault;
 pub mod lane_plant;
 pub mod lists;
-pub mod make;
 pub mod questions;

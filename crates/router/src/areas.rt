@@ -1,0 +1,70 @@
+// The memory of the program: the lists of its plant, and the work areas of its searches.
+use cost::length::Length;
+use format::counts::Counts;
+use search::entry::Entry;
+use search::entry::EntryClone;
+use search::row::Row;
+use search::row::RowClone;
+use search::row::State;
+use std::alloc::AllocError;
+use std::alloc::Global;
+
+// The largest plant that the program takes.
+pub const MOST: Counts = Counts {
+    nodes: 128,
+    lanes: 512,
+    landmarks: 4,
+};
+
+// Room for the largest plant's lists.
+#[derive(Drop)]
+pub struct PlantRoom {
+    pub tails: Vec<u32>,
+    pub heads: Vec<u32>,
+    pub costs: Vec<u32>,
+    pub first_out: Vec<u32>,
+    pub first_in: Vec<u32>,
+    pub by_head: Vec<u32>,
+    pub to: Vec<u32>,
+    pub from: Vec<u32>,
+}
+
+// Room for a search of the largest plant.
+#[derive(Drop)]
+pub struct SearchRoom {
+    pub rows: Vec<Row<Length>>,
+    pub queue: Vec<Entry<Length>>,
+    pub route: Vec<u32>,
+}
+
+pub fn plant_room(heap: Global) -> Result<PlantRoom, AllocError> {
+    Ok(PlantRoom {
+        tails: vec![in heap; 0; 512]?,
+        heads: vec![in heap; 0; 512]?,
+        costs: vec![in heap; 0; 512]?,
+        first_out: vec![in heap; 0; 129]?,
+        first_in: vec![in heap; 0; 129]?,
+        by_head: vec![in heap; 0; 512]?,
+        to: vec![in heap; 0; 512]?,
+        from: vec![in heap; 0; 512]?,
+    })
+}
+
+pub fn search_room(heap: Global) -> Result<SearchRoom, AllocError> {
+    let none = Length::of(0);
+    let row = Row {
+        label: none,
+        lane: 0,
+        state: State::Blank,
+    };
+    let entry = Entry {
+        key: none,
+        label: none,
+        node: 0,
+    };
+    Ok(SearchRoom {
+        rows: vec![in heap; row; 128]?,
+        queue: vec![in heap; entry; 513]?,
+        route: vec![in heap; 0; 128]?,
+    })
+}
