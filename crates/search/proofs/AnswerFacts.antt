@@ -2,7 +2,6 @@
 use mathlib.Core.Path.{_≡_, refl, sym, ap, subst, _∙_}
 use mathlib.Core.Bool.{Bool, true, false, cond}
 use mathlib.Core.List.{List, [], _++_}
-use mathlib.Core.Logic.{_⊎_, inl, inr}
 use Prim.Native.Nat.{ℕ, _<_, _≤_}
 use lib.Dec.{ltb, leb}
 use lib.ListN.{length, take, drop, take-append-drop}
@@ -17,12 +16,12 @@ use Rattle.search.specs.declared.answer.Answer.{Answer}
 use Rattle.search.specs.declared.answer.Answer.the-variants.{Route, Beyond}
 use Rattle.search.specs.declared.fault.SearchFault.{SearchFault}
 use Rattle.search.specs.declared.fault.SearchFault.the-variants.{Start, Goal, Rows, Queue, Route as ShortRoute}
-use Rattle.search.specs.Rows.{count-scanned}
-use Rattle.search.specs.Picks.{one-way, one-route}
-use Rattle.search.specs.Stands.{Shown, OneWayRight}
-use Rattle.search.specs.Walks.{NoneBelow}
-use Rattle.search.specs.Searched.{fault-of, one-answer, one-nodes, onto, cost-of, node-count-of, Right}
-use Rattle.search.proofs.Costs.{is-beyond}
+use Rattle.search.specs.declared.row.Row.{Row}
+use Rattle.search.specs.Steps.{count-scanned}
+use Rattle.search.specs.OneWay.{one-way, one-route}
+use Rattle.search.specs.Answer.{RouteOf, Right}
+use Rattle.search.specs.Searched.{fault-of, one-answer, one-nodes, onto, cost-of, node-count-of}
+use Rattle.search.proofs.Order.{is-beyond}
 
 pub no-fault : {C : Type 0} (f : Floor C) (start goal rows entries places : ℕ) → start < f .nodes → goal < f .nodes → f .nodes ≤ rows → length (f .lanes) < entries → f .nodes ≤ places → None ≡ fault-of f start goal rows entries places
 no-fault f start goal rows entries places a b c d e =
@@ -59,19 +58,23 @@ module _ {C : Type 0} (k : Kind C) (f : Floor C) (start goal : ℕ) where
       ((λ i. Route (p i) (q i) (r i)) ∙ sym (cond-false _ (Beyond Scanned) (Route Cost Scanned (length (one-route k f start goal))) e),
        w ∙ ap (λ (xs : List ℕ). onto xs old) (sym (cond-false _ [] (one-route k f start goal) e)))
 
-  module _ (laws : Laws k) (w : OneWayRight k f start goal (one-way k f start goal) (one-route k f start goal)) where
-    -- the answer and the nodes written are right, by the steps' own theorem
+  -- what is right of the steps is right of the answer that tells them, and of the rows and nodes that are left
+  module _ (laws : Laws k) (w : Right k f start goal Cost (one-route k f start goal) (one-way k f start goal .rows)) where
     right-when : (b : Bool) (old : List ℕ) → k .atMost (k .beyond) Cost ≡ b →
         let a = cond b (Beyond Scanned) (Route Cost Scanned (length (one-route k f start goal))) in
         let new = onto (cond b [] (one-route k f start goal)) old in
-        Right k f start goal new a
-    right-when true old e = record { least = subst (NoneBelow k f start goal) (is-beyond k laws Cost e) (w .optimal); sound = inl refl }
-    right-when false old e = record {
-      least = w .optimal;
-      sound = elim (w .sound) [ inl p ↦ inl p | inr s ↦ inr (subst (Shown k f start goal Cost) (sym (take-append-seam (one-route k f start goal) (drop (length (one-route k f start goal)) old))) s) ];
-    }
+        Right k f start goal (cost-of k a) (take (node-count-of a) new) (one-way k f start goal .rows)
+    right-when true old e =
+        let far : Cost ≡ k .beyond = is-beyond k laws Cost e in
+        let at : Right k f start goal (k .beyond) (one-route k f start goal) (one-way k f start goal .rows) = subst (λ (c : C). Right k f start goal c (one-route k f start goal) (one-way k f start goal .rows)) far w in
+        record { optimal = at .optimal; route = λ n. absurd (n refl); beyond = at .beyond; scans = at .scans }
+    right-when false old e =
+        subst (λ (xs : List ℕ). Right k f start goal Cost xs (one-way k f start goal .rows)) (sym (take-append-seam (one-route k f start goal) (drop (length (one-route k f start goal)) old))) w
 
-    pub right-of : (a : Answer C) (old new : List ℕ) → a ≡ one-answer k f start goal → new ≡ onto (one-nodes k f start goal) old → Right k f start goal new a
-    right-of a old new p q =
-        subst (λ (x : Answer C). Right k f start goal new x) (sym p)
-        (subst (λ (xs : List ℕ). Right k f start goal xs (one-answer k f start goal)) (sym q) (right-when (k .atMost (k .beyond) Cost) old refl))
+    pub right-of : (a : Answer C) (old new : List ℕ) (rows : List (Row C)) → a ≡ one-answer k f start goal → new ≡ onto (one-nodes k f start goal) old → rows ≡ one-way k f start goal .rows
+        → Right k f start goal (cost-of k a) (take (node-count-of a) new) rows
+    right-of a old new rows p q r =
+        subst (λ (x : Answer C). Right k f start goal (cost-of k x) (take (node-count-of x) new) rows) (sym p)
+        (subst (λ (xs : List ℕ). Right k f start goal (cost-of k (one-answer k f start goal)) (take (node-count-of (one-answer k f start goal)) xs) rows) (sym q)
+          (subst (λ (xs : List (Row C)). Right k f start goal (cost-of k (one-answer k f start goal)) (take (node-count-of (one-answer k f start goal)) (onto (one-nodes k f start goal) old)) xs) (sym r)
+            (right-when (k .atMost (k .beyond) Cost) old refl)))

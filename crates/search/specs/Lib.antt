@@ -1,9 +1,9 @@
-pub mod States
-pub mod Ranks
+pub mod Lists
 pub mod Rows
-pub mod Picks
-pub mod Walks
-pub mod Stands
+pub mod Steps
+pub mod OneWay
+pub mod Survey
+pub mod Answer
 pub mod Ties
 pub mod Told
 pub mod Searched

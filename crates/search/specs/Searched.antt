@@ -2,7 +2,6 @@
 use mathlib.Core.Path.{_≡_}
 use mathlib.Core.Bool.{cond}
 use mathlib.Core.List.{List, [], _++_}
-use mathlib.Core.Logic.{_⊎_}
 use Prim.Native.Nat.{ℕ}
 use lib.Dec.{ltb, leb}
 use lib.ListN.{length, take, drop}
@@ -15,10 +14,8 @@ use Rattle.search.specs.declared.answer.Answer.{Answer}
 use Rattle.search.specs.declared.answer.Answer.the-variants.{Route, Beyond}
 use Rattle.search.specs.declared.fault.SearchFault.{SearchFault}
 use Rattle.search.specs.declared.fault.SearchFault.the-variants.{Start, Goal, Rows, Queue, Route as ShortRoute}
-use Rattle.search.specs.Rows.{count-scanned}
-use Rattle.search.specs.Picks.{one-way, one-route}
-use Rattle.search.specs.Walks.{NoneBelow}
-use Rattle.search.specs.Stands.{Shown}
+use Rattle.search.specs.Steps.{count-scanned}
+use Rattle.search.specs.OneWay.{one-way, one-route}
 
 -- the first thing that is wrong with a call, by how many rows, entries and route places it lends
 abbrev pub fault-of : {C : Type 0} → Floor C → ℕ → ℕ → ℕ → ℕ → ℕ → Option SearchFault
@@ -59,8 +56,3 @@ cost-of k (Beyond scanned) = k .beyond
 abbrev pub node-count-of : {C : Type 0} → Answer C → ℕ
 node-count-of (Route cost scanned nodes) = nodes
 node-count-of (Beyond scanned) = 0
-
--- by walks: no walk costs less, and the route is that of a walk of that cost
-pub record Right {C : Type 0} (k : Kind C) (f : Floor C) (start goal : ℕ) (route′ : List ℕ) (a : Answer C) : Type 0 where
-  pub least : NoneBelow k f start goal (cost-of k a)
-  pub sound : (cost-of k a ≡ k .beyond) ⊎ Shown k f start goal (cost-of k a) (take (node-count-of a) route′)

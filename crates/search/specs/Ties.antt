@@ -1,6 +1,6 @@
 -- How the queue and the rows of a search hang together.
 use mathlib.Core.Path.{_≡_}
-use mathlib.Core.Bool.{Bool, true, cond}
+use mathlib.Core.Bool.{true, cond}
 use mathlib.Core.List.{List, [], _∷_}
 use mathlib.Core.Logic.{_⊎_}
 use Prim.Native.Nat.{ℕ, suc, _<_}
@@ -8,15 +8,13 @@ use Rattle.std.specs.shelf.Lists.{Has}
 use Rattle.cost.specs.Kind.{Kind}
 use Rattle.plant.specs.declared.lane.Lane.{Lane}
 use Rattle.plant.specs.Floor.{Floor}
-use Rattle.queue.specs.declared.heap.Queue.{Queue}
 use Rattle.queue.specs.Held.{held, Heaped}
+use Rattle.queue.specs.declared.heap.Queue.{Queue}
+use Rattle.search.specs.declared.entry.Entry.{Entry}
 use Rattle.search.specs.declared.row.Row.{Row}
 use Rattle.search.specs.declared.row.State.the-variants.{Labelled}
-use Rattle.search.specs.declared.entry.Entry.{Entry}
-use Rattle.search.specs.States.{is-scanned}
-use Rattle.search.specs.Ranks.{ahead-of}
-use Rattle.search.specs.Rows.{row-at}
-use Rattle.search.specs.Picks.{key-of}
+use Rattle.search.specs.Rows.{is-scanned, row-at}
+use Rattle.search.specs.Steps.{ahead-of, key-of}
 
 abbrev pub entry-of : {C : Type 0} → Kind C → Floor C → ℕ → Row C → ℕ → Entry C
 entry-of k f goal r v = record { key = key-of k f goal r v; label = r .label; node = v }

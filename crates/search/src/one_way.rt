@@ -4,10 +4,11 @@ ghost use Prim.Native.Nat.{suc, _≤_, _<_, _+_, _^_};
 ghost use lib.ListN.{length, take, drop};
 ghost use Rattle.plant.specs.Floor.{FloorLaws};
 ghost use Rattle.queue.specs.Held.{held, count, room, Heaped};
-ghost use Rattle.search.specs.Rows.{count-scanned, start-rows, trace};
-ghost use Rattle.search.specs.Picks.{one-from, one-way, one-route};
+ghost use Rattle.search.specs.Steps.{count-scanned};
+ghost use Rattle.search.specs.OneWay.{one-from, one-way};
 ghost use Rattle.search.specs.Ties.{Front, left-of};
-ghost use Rattle.search.specs.Searched.{fault-of, one-answer, one-nodes, onto, Searched, Right};
+ghost use Rattle.search.specs.Answer.{Right};
+ghost use Rattle.search.specs.Searched.{fault-of, one-answer, one-nodes, onto, cost-of, node-count-of, Searched};
 ghost use Rattle.std.specs.Results.{Cases, errPart};
 use crate::answer::Answer;
 use crate::entry::Entry;
@@ -150,7 +151,7 @@ pub fn one_way<P: Plant>(
 ) -> Result<Answer<P::Cost>, SearchFault>
     ensures fault { λ r. ⌜ errPart r ≡ fault-of (P·Plant .floor (now (plant .entry))) start goal (length (now (rows .entry))) (length (now (queue .entry))) (length (now (route .entry))) ⌝ }
     ensures searched { λ r. ⌜ Cases r (λ a. Searched (Cost·CostKind .kind) (P·Plant .floor (now (plant .entry))) start goal (now (rows .entry)) (now (rows .exit)) (now (route .entry)) (now (route .exit)) a) (λ _. (now (rows .exit) ≡ now (rows .entry)) × (now (queue .exit) ≡ now (queue .entry)) × (now (route .exit) ≡ now (route .entry))) ⌝ }
-    ensures right { λ r. ⌜ Cases r (λ a. Right (Cost·CostKind .kind) (P·Plant .floor (now (plant .entry))) start goal (now (route .exit)) a) (λ _. Unit {0}) ⌝ }
+    ensures right { λ r. ⌜ Cases r (λ a. Right (Cost·CostKind .kind) (P·Plant .floor (now (plant .entry))) start goal (cost-of (Cost·CostKind .kind) a) (take (node-count-of a) (now (route .exit))) (take (P·Plant .floor (now (plant .entry)) .nodes) (now (rows .exit)))) (λ _. Unit {0}) ⌝ }
 {
     let nodes = plant.node_count();
     if start >= nodes {

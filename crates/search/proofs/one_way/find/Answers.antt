@@ -5,8 +5,8 @@ use Prim.Native.Nat.{ℕ, _≤_}
 use native.Mathlib.Omega.{arith}
 use lib.ListN.{length}
 use Rattle.search.specs.declared.row.Row.{Row}
-use Rattle.search.specs.Picks.{one-way, one-route}
-use Rattle.search.specs.Rows.{count-scanned, trace}
+use Rattle.search.specs.OneWay.{one-way, one-route}
+use Rattle.search.specs.Steps.{count-scanned, trace}
 use Rattle.search.proofs.AnswerFacts.{written, beyond-answer, route-answer}
 use Rattle.search.proofs.one_way.find.Needs as need
 

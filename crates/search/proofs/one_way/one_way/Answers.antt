@@ -5,10 +5,8 @@ use native.Mathlib.Omega.{arith}
 use lib.ListN.{length, take, drop}
 use Rattle.std.proofs.shelf.Lists.{length-take-le}
 use Rattle.std.proofs.shelf.Parts.{take-putMid, drop-putMid}
-use Rattle.search.specs.declared.row.Row.{Row}
-use Rattle.search.specs.Rows.{count-scanned}
 use Rattle.search.proofs.AnswerFacts.{no-fault, right-of}
-use Rattle.search.proofs.OneWayProof.{one-way-stands}
+use Rattle.search.proofs.Answers.{one-way-right}
 use Rattle.search.proofs.one_way.one_way.Needs as need
 
 pub returns : need.returns
@@ -30,13 +28,14 @@ returns g c =
     let places : f .nodes ≤ length (c .args .route .now) = omega (arith, c .if-route-n .left, counts) in
     let found = c .find .ensures in
     let long : length ys ≡ n - 0 = c .find .kept .rows ∙ length-take-le (n - 0) xs (omega (arith, rows, counts)) in
+    let kept = take-putMid 0 (n - 0) xs ys (f .nodes) (omega (arith, long, counts)) (omega arith) ∙ found .rows in
     record {
       fault = no-fault f start goal (length xs) (length (c .args .queue .now)) (length (c .args .route .now)) a b rows entries places;
       searched = record {
-        rows-are = take-putMid 0 (n - 0) xs ys (f .nodes) (omega (arith, long, counts)) (omega arith) ∙ found .rows;
+        rows-are = kept;
         rows-past = drop-putMid 0 (n - 0) xs ys (f .nodes) (omega (arith, counts)) (omega arith) long;
         answer-is = found .answer;
         route-is = found .route;
       };
-      right = right-of k f start goal laws (one-way-stands (g .P·Cost .Denot) k laws f fl start goal a b) (c .find .result) (c .args .route .now) (c .find .last .route) (found .answer) (found .route);
+      right = right-of k f start goal laws (one-way-right laws fl a b) (c .find .result) (c .args .route .now) (c .find .last .route) _ (found .answer) (found .route) kept;
     }
