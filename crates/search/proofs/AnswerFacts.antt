@@ -20,7 +20,8 @@ use Rattle.search.specs.declared.row.Row.{Row}
 use Rattle.search.specs.Steps.{count-scanned}
 use Rattle.search.specs.OneWay.{one-way, one-route}
 use Rattle.search.specs.Answer.{RouteOf, Right}
-use Rattle.search.specs.Searched.{fault-of, one-answer, one-nodes, onto, cost-of, node-count-of}
+use Rattle.search.specs.Lists.{onto}
+use Rattle.search.specs.Searched.{fault-of, one-answer, one-nodes, cost-of, node-count-of}
 use Rattle.search.proofs.Order.{is-beyond}
 
 pub no-fault : {C : Type 0} (f : Floor C) (start goal rows entries places : ℕ) → start < f .nodes → goal < f .nodes → f .nodes ≤ rows → length (f .lanes) < entries → f .nodes ≤ places → None ≡ fault-of f start goal rows entries places

@@ -12,7 +12,7 @@ use Rattle.search.proofs.At.{label-at}
 use Rattle.search.proofs.OneWay.{Finished, one-way-finished}
 use Rattle.search.proofs.Order.{Le, is-beyond, le-mono, le-trans}
 use Rattle.search.proofs.States.{scanned-not-blank}
-use Rattle.search.proofs.Survey.{least-exists}
+use Rattle.search.proofs.LeastCosts.{least-exists}
 use Rattle.search.proofs.Treks.{Trek}
 
 module _ {C : Type 0} (k : Kind C) (laws : Laws k) (f : Floor C) (fl : FloorLaws k f) (s t : ℕ) where

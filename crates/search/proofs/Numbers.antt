@@ -8,7 +8,8 @@ use native.Mathlib.Omega.{arith}
 use lib.Dec.{eqb}
 use lib.ListN.{length}
 use Rattle.std.proofs.shelf.Tests.{cases-eq, cond-both, eqb-false, eqb-true}
-use Rattle.search.specs.Lists.{Distinct, In, without}
+use Rattle.plant.specs.Closed.{without}
+use Rattle.search.specs.Lists.{Distinct, In}
 
 pub in-without : (n : ℕ) (xs : List ℕ) (m : ℕ) → In m (without n xs) → In m xs × (m ≡ n → ⊥)
 in-without n [] m h = absurd h

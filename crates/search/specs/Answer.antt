@@ -38,7 +38,7 @@ pub record Right {C : Type 0} (k : Kind C) (f : Floor C) (s t : ℕ) (c : C) (no
   pub scans : (v : ℕ) → row-at k rows v .state ≡ Scanned → WorthForward k f s t c v
 
 -- the rows that a survey from s leaves: each label is the least cost from s
-pub record Surveyed {C : Type 0} (k : Kind C) (f : Floor C) (s : ℕ) (rows : List (Row C)) : Type 0 where
+pub record LabelsLeast {C : Type 0} (k : Kind C) (f : Floor C) (s : ℕ) (rows : List (Row C)) : Type 0 where
   pub labels : (v : ℕ) → Least k f s v (row-at k rows v .label)
 
 -- every two nodes have a least cost

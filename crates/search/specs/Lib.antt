@@ -7,3 +7,4 @@ pub mod Answer
 pub mod Ties
 pub mod Told
 pub mod Searched
+pub mod Surveyed

@@ -1,10 +1,9 @@
--- Lists of numbers: what stands in one, that none stands twice, and a list without a number.
+-- Lists: what stands in one, that none stands twice, and a list written over another.
 use mathlib.Core.Path.{_≡_}
-use mathlib.Core.Bool.{cond}
-use mathlib.Core.List.{List, [], _∷_}
+use mathlib.Core.List.{List, [], _∷_, _++_}
 use mathlib.Core.Logic.{_⊎_}
 use Prim.Native.Nat.{ℕ}
-use lib.Dec.{eqb}
+use lib.ListN.{length, drop}
 
 -- x stands in the list
 abbrev pub In : ℕ → List ℕ → Type 0
@@ -16,7 +15,6 @@ abbrev pub Distinct : List ℕ → Type 0
 Distinct [] = Unit {0}
 Distinct (x ∷ xs) = (In x xs → ⊥) × Distinct xs
 
--- the list without n
-abbrev pub without : ℕ → List ℕ → List ℕ
-without n [] = []
-without n (x ∷ xs) = cond (eqb x n) (without n xs) (x ∷ without n xs)
+-- the list `old` with its first entries overwritten by `new`
+abbrev pub onto : {A : Type 0} → List A → List A → List A
+onto new old = new ++ drop (length new) old

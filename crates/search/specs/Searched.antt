@@ -1,7 +1,7 @@
 -- What a call of the one-way search answers and leaves.
 use mathlib.Core.Path.{_≡_}
 use mathlib.Core.Bool.{cond}
-use mathlib.Core.List.{List, [], _++_}
+use mathlib.Core.List.{List, []}
 use Prim.Native.Nat.{ℕ}
 use lib.Dec.{ltb, leb}
 use lib.ListN.{length, take, drop}
@@ -14,6 +14,7 @@ use Rattle.search.specs.declared.answer.Answer.{Answer}
 use Rattle.search.specs.declared.answer.Answer.the-variants.{Route, Beyond}
 use Rattle.search.specs.declared.fault.SearchFault.{SearchFault}
 use Rattle.search.specs.declared.fault.SearchFault.the-variants.{Start, Goal, Rows, Queue, Route as ShortRoute}
+use Rattle.search.specs.Lists.{onto}
 use Rattle.search.specs.Steps.{count-scanned}
 use Rattle.search.specs.OneWay.{one-way, one-route}
 
@@ -37,10 +38,6 @@ one-answer k f start goal =
 -- the nodes that are written: none where the answer is beyond
 abbrev pub one-nodes : {C : Type 0} → Kind C → Floor C → ℕ → ℕ → List ℕ
 one-nodes k f start goal = cond (k .atMost (k .beyond) (one-way k f start goal .cost)) [] (one-route k f start goal)
-
--- the list `old` with its first entries overwritten
-abbrev pub onto : List ℕ → List ℕ → List ℕ
-onto new old = new ++ drop (length new) old
 
 -- by the steps: the first rows, the answer and the route are theirs, and what is past them is as it was
 pub record Searched {C : Type 0} (k : Kind C) (f : Floor C) (start goal : ℕ) (rows rows′ : List (Row C)) (route route′ : List ℕ) (a : Answer C) : Type 0 where

@@ -91,3 +91,6 @@ trace k f start rows zero v after = after
 trace k f start rows (suc n) v after =
     let far = trace k f start rows n (lane-tail (nth (f .lanes) (row-at k rows v .lane))) (v ∷ after) in
     cond (eqb v start) (v ∷ after) far
+
+abbrev pub label-of : {C : Type 0} → Row C → C
+label-of r = r .label

@@ -3,7 +3,7 @@ use Prim.Native.Nat.{ℕ}
 use Rattle.plant.specs.declared.refusal.Refusal.{Refusal}
 use Rattle.plant.specs.declared.refusal.Layer.the-variants.{Search}
 use Rattle.search.specs.declared.fault.SearchFault.{SearchFault}
-use Rattle.search.specs.declared.fault.SearchFault.the-variants.{Start, Goal, Rows, Queue, Route}
+use Rattle.search.specs.declared.fault.SearchFault.the-variants.{Start, Goal, Rows, Queue, Route, Costs}
 
 abbrev told : ℕ → ℕ → Refusal
 told n place = record { number = n; layer = Search; first = place; second = 0 }
@@ -14,3 +14,4 @@ refusal-of (Goal v) = told 7 v
 refusal-of Rows = told 8 0
 refusal-of Queue = told 8 0
 refusal-of Route = told 8 0
+refusal-of Costs = told 8 0

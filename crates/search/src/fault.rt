@@ -10,4 +10,5 @@ pub enum SearchFault {
     Rows,
     Queue,
     Route,
+    Costs,
 }

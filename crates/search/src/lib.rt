@@ -8,5 +8,6 @@ pub mod live;
 pub mod one_way;
 pub mod row;
 pub mod rows;
+pub mod survey;
 pub mod told;
 pub mod walk_back;

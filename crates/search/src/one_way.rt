@@ -8,7 +8,8 @@ ghost use Rattle.search.specs.Steps.{count-scanned};
 ghost use Rattle.search.specs.OneWay.{one-from, one-way};
 ghost use Rattle.search.specs.Ties.{Front, left-of};
 ghost use Rattle.search.specs.Answer.{Right};
-ghost use Rattle.search.specs.Searched.{fault-of, one-answer, one-nodes, onto, cost-of, node-count-of, Searched};
+ghost use Rattle.search.specs.Lists.{onto};
+ghost use Rattle.search.specs.Searched.{fault-of, one-answer, one-nodes, cost-of, node-count-of, Searched};
 ghost use Rattle.std.specs.Results.{Cases, errPart};
 use crate::answer::Answer;
 use crate::entry::Entry;
@@ -40,7 +41,6 @@ pub fn scan_all<P: Plant>(
 ) -> Ending<P::Cost>
     requires laws { ⌜ FloorLaws (Cost·CostKind .kind) (P·Plant .floor (now plant)) ⌝ }
     requires rows { ⌜ length (now rows) ≡ P·Plant .floor (now plant) .nodes ⌝ }
-    requires goal { ⌜ goal < P·Plant .floor (now plant) .nodes ⌝ }
     requires front { ⌜ Front (Cost·CostKind .kind) (P·Plant .floor (now plant)) goal (now rows) (now queue) ⌝ }
     requires room { ⌜ count (now queue) + left-of (Cost·CostKind .kind) (now rows) (P·Plant .floor (now plant) .lanes) ≤ room (now queue) ⌝ }
     requires few { ⌜ length (now rows) < 2 ^ 32 ⌝ }
@@ -74,7 +74,7 @@ pub fn scan_all<P: Plant>(
 }
 
 // Scans from `start` on.
-fn run<P: Plant>(
+pub(crate) fn run<P: Plant>(
     plant: &P,
     start: u32,
     goal: u32,
@@ -85,7 +85,6 @@ fn run<P: Plant>(
     requires rows { ⌜ length (now rows) ≡ P·Plant .floor (now plant) .nodes ⌝ }
     requires few { ⌜ length (now rows) < 2 ^ 32 ⌝ }
     requires start { ⌜ start < P·Plant .floor (now plant) .nodes ⌝ }
-    requires goal { ⌜ goal < P·Plant .floor (now plant) .nodes ⌝ }
     requires room { ⌜ length (P·Plant .floor (now plant) .lanes) < length (now slots) ⌝ }
     ensures rows { λ _. ⌜ now (rows .exit) ≡ one-way (Cost·CostKind .kind) (P·Plant .floor (now (plant .entry))) start goal .rows ⌝ }
     ensures cost { λ r. ⌜ r .cost ≡ one-way (Cost·CostKind .kind) (P·Plant .floor (now (plant .entry))) start goal .cost ⌝ }

@@ -15,6 +15,7 @@ impl SearchFault {
             SearchFault::Rows => (8, 0),
             SearchFault::Queue => (8, 0),
             SearchFault::Route => (8, 0),
+            SearchFault::Costs => (8, 0),
         };
         Refusal {
             number,

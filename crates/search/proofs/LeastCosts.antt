@@ -15,7 +15,7 @@ use Rattle.plant.proofs.FloorFacts.{turned-laws, blinded-laws}
 use Rattle.search.specs.declared.entry.Entry.{Entry}
 use Rattle.search.specs.declared.row.Row.{Row}
 use Rattle.search.specs.declared.row.State.the-variants.{Blank, Scanned}
-use Rattle.search.specs.Answer.{LeastExist, Surveyed}
+use Rattle.search.specs.Answer.{LeastExist, LabelsLeast}
 use Rattle.search.specs.Rows.{row-at}
 use Rattle.search.specs.Steps.{pick, scan, count-scanned, start-rows, in-reach}
 use Rattle.search.specs.Survey.{survey-from, survey}
@@ -69,21 +69,21 @@ module _ {C : Type 0} (k : Kind C) (laws : Laws k) (f : Floor C) (fl : FloorLaws
         met : (state-at k rows v ≡ Blank → ⊥) → (label-at k rows v ≡ k .beyond) ⊎ ((is : List ℕ) × Walk f start is v × (walk-cost k f is ≡ label-at k rows v))
         met n = let r = reached laws (blinded-laws laws fl) (fl .some-node) core v n in inr (r .lanes, walk-seen k f (r .lanes) start v (r .walk), sym (cost-blinded k f (r .lanes)) ∙ r .costs)
 
-  survey-from-right : (n : ℕ) (rows : List (Row C)) → Core k (blinded k f) start 0 rows → f .nodes < n + count-scanned rows → Surveyed k f start (survey-from k (blinded k f) n rows)
+  survey-from-right : (n : ℕ) (rows : List (Row C)) → Core k (blinded k f) start 0 rows → f .nodes < n + count-scanned rows → LabelsLeast k f start (survey-from k (blinded k f) n rows)
   survey-from-right zero rows core h = absurd (let c = count-le k rows in let m = core .long in omega arith)
   survey-from-right (suc n) rows core h = on-pick (survey-from-right n) (pick k (blinded k f) 0 (in-reach k) rows) (picked-from k laws (blinded k f) 0 (in-reach k) 0 rows)
     where
-      on-pick : ((rows′ : List (Row C)) → Core k (blinded k f) start 0 rows′ → f .nodes < n + count-scanned rows′ → Surveyed k f start (survey-from k (blinded k f) n rows′)) → (o : Option (Entry C)) → Picked k (blinded k f) 0 (in-reach k) 0 rows o
-          → Surveyed k f start (elim o [ None ↦ rows | Some e ↦ survey-from k (blinded k f) n (scan k (blinded k f) rows (e .node)) ])
+      on-pick : ((rows′ : List (Row C)) → Core k (blinded k f) start 0 rows′ → f .nodes < n + count-scanned rows′ → LabelsLeast k f start (survey-from k (blinded k f) n rows′)) → (o : Option (Entry C)) → Picked k (blinded k f) 0 (in-reach k) 0 rows o
+          → LabelsLeast k f start (elim o [ None ↦ rows | Some e ↦ survey-from k (blinded k f) n (scan k (blinded k f) rows (e .node)) ])
       on-pick more None p = record { labels = labels-least rows core p }
       on-pick more (Some e) p = more (scan k (blinded k f) rows (e .node)) (next-core laws (blinded-laws laws fl) (fl .some-node) core e p)
           (let c = counts-next laws (blinded-laws laws fl) (fl .some-node) core e p in omega arith)
 
-  survey-right-at : Surveyed k f start (survey k f start)
+  survey-right-at : LabelsLeast k f start (survey k f start)
   survey-right-at = survey-from-right (suc (f .nodes)) (start-rows k f start) (core-start k laws (blinded k f) start 0 start-in) (let c = count-start k laws f start 0 start-in in omega arith)
 
 -- the survey's labels are the least costs from the start
-pub survey-right : {C : Type 0} {k : Kind C} {f : Floor C} {s : ℕ} → Laws k → FloorLaws k f → s < f .nodes → Surveyed k f s (survey k f s)
+pub survey-right : {C : Type 0} {k : Kind C} {f : Floor C} {s : ℕ} → Laws k → FloorLaws k f → s < f .nodes → LabelsLeast k f s (survey k f s)
 survey-right {C} {k} {f} {s} laws fl s-in = survey-right-at k laws f fl s s-in
 
 -- every node has a least cost from s
