@@ -64,6 +64,7 @@ without-reverse k (x ∷ xs) =
     none : (l : List ℕ) → l ++ [] ≡ l
     none [] = refl
     none (y ∷ l) = ap (λ m. y ∷ m) (none l)
+
     step : (t : Bool) → reverse (without k xs) ++ cond t [] (x ∷ []) ≡ reverse (cond t (without k xs) (x ∷ without k xs))
     step true = none (reverse (without k xs))
     step false = sym (reverse-cons x (without k xs))

@@ -24,8 +24,8 @@ is-shut s n = among (closed-list s) n
 abbrev pub close-fault : ℕ → List ℕ → ℕ → Option ShiftFault
 close-fault lanes closed n =
     cond (ltb n lanes)
-      (cond (among closed n) (Some (Closed n)) (cond (ltb (length closed) 64) None (Some (Full n))))
-      (Some (NoLane n))
+    (cond (among closed n) (Some (Closed n)) (cond (ltb (length closed) 64) None (Some (Full n))))
+    (Some (NoLane n))
 
 abbrev pub reopen-fault : ℕ → List ℕ → ℕ → Option ShiftFault
 reopen-fault lanes closed n = cond (ltb n lanes) (cond (among closed n) None (Some (Open n))) (Some (NoLane n))

@@ -12,9 +12,11 @@ use Rattle.plants.specs.Columns.{Columns}
 use Rattle.plants.specs.Index.{below, places, firsts}
 use Rattle.plants.specs.Laid.{lanes-of}
 use Rattle.plants.proofs.Lawful.{Lawful}
-use Rattle.plants.proofs.Counted.{below-fits, count-places, no-places, firsts-at}
+use Rattle.plants.proofs.Counted.{count-places, no-places}
+use Rattle.plants.proofs.Counting.{below-length}
+use Rattle.plants.proofs.Each.{firsts-at}
 use Rattle.plants.proofs.Rising.{rising, row-at}
-use Rattle.plants.proofs.Groups.{grouped-at}
+use Rattle.plants.proofs.HeadRows.{grouped-at}
 use Rattle.plants.proofs.Lanes.{tail-places, head-places}
 
 -- what the first-list of some ends has at a node, and past it
@@ -31,7 +33,7 @@ span nodes first ends v e lt =
     record {
       start = start;
       count = omega (arith, start, past, count-places 0 v ends);
-      within = omega (arith, past, below-fits (suc v) ends);
+      within = omega (arith, past, below-length (suc v) ends);
     }
 
 module _ (nodes landmarks : ℕ) (c : Columns) (s : Lawful nodes landmarks c) where

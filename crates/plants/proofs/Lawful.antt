@@ -10,7 +10,9 @@ use Rattle.plants.specs.declared.lane_plant.LanePlant.{LanePlant}
 use Rattle.plants.specs.Columns.{Columns, columns, lane-count, row}
 use Rattle.plants.specs.Index.{firsts, grouped}
 use Rattle.plants.specs.Faults.{first-failing, sum, counts-fit, lengths-fit, tail-before, ends-fit, cost-fits, index-fits, table-fits, table-fault, is-lawful}
-use Rattle.plants.proofs.Passing.{passed, passed-each, none-fails, no-table-fault, same-lists}
+use Rattle.plants.proofs.FirstFailing.{none-fails}
+use Rattle.plants.proofs.Passing.{passed, passed-each, no-table-fault}
+use Rattle.plants.proofs.Same.{same-true}
 
 pub record Lawful (nodes landmarks : ℕ) (c : Columns) : Type 0 where
   pub some : 0 < nodes
@@ -75,9 +77,9 @@ module _ (nodes landmarks : ℕ) (c : Columns) where
         heads-in = λ k lt. ltb-true _ _ (more k lt .0);
         ascends = λ k lt. leb-true _ _ (more k lt .1);
         costs-in = λ k lt. leb-true _ _ (costs k lt);
-        outs = same-lists _ _ (index₁ .0);
-        ins = same-lists _ _ (index₂ .0);
-        by = same-lists _ _ (index₂ .1);
+        outs = same-true _ _ (index₁ .0);
+        ins = same-true _ _ (index₂ .0);
+        by = same-true _ _ (index₂ .1);
         to-holds = λ m k lm lk. leb-true _ _ (table m k lm lk .0);
         from-holds = λ m k lm lk. leb-true _ _ (table m k lm lk .1);
       }
@@ -90,10 +92,10 @@ module _ (nodes landmarks : ℕ) (c : Columns) where
       let costs = passed-each _ (first-failing (cost-fits (c .costs)) 0 (lane-count c)) _ (ends .1) in
       let index = passed (index-fits nodes c) (table-fault nodes c 0 landmarks) _ (costs .1) in
       from-tests (counts .0) (lengths .0)
-      (λ k lt. none-fails _ 0 (lane-count c) (ends .0) k (omega arith) (omega arith))
-      (λ k lt. none-fails _ 0 (lane-count c) (costs .0) k (omega arith) (omega arith))
+      (λ k lt. none-fails _ 0 (lane-count c) k (ends .0) (omega arith) (omega arith))
+      (λ k lt. none-fails _ 0 (lane-count c) k (costs .0) (omega arith) (omega arith))
       (index .0)
-      (λ m k lm lk. none-fails _ 0 (lane-count c) (no-table-fault nodes c 0 landmarks (index .1) m (omega arith) (omega arith)) k (omega arith) (omega arith))
+      (λ m k lm lk. none-fails _ 0 (lane-count c) k (no-table-fault nodes c 0 landmarks (index .1) m (omega arith) (omega arith)) (omega arith) (omega arith))
 
 pub kept : (p : LanePlant) → Lawful (p .nodes) (p .landmarks) (columns (p .lists))
 kept p = lawful (p .nodes) (p .landmarks) (columns (p .lists)) (p .lawful)

@@ -2,3 +2,6 @@ pub mod Columns
 pub mod Index
 pub mod Faults
 pub mod Laid
+pub mod Lone
+pub mod Tally
+pub mod Told

@@ -65,7 +65,12 @@ fn front(list: &[u32], n: usize) -> &[u32] {
 }
 
 // Makes the plant that was read, and answers the commands behind it.
-fn serve_plant(rt: &LibcRuntime, text: &[u8], file: PlantFile, room: &PlantRoom) -> Result<(), AnyError> {
+fn serve_plant(
+    rt: &LibcRuntime,
+    text: &[u8],
+    file: PlantFile,
+    room: &PlantRoom,
+) -> Result<(), AnyError> {
     let lanes = file.counts.lanes as usize;
     let ends = (file.counts.nodes as usize).saturating_add(1);
     let table = (file.counts.nodes as usize).saturating_mul(file.counts.landmarks as usize);
@@ -93,7 +98,12 @@ fn serve_plant(rt: &LibcRuntime, text: &[u8], file: PlantFile, room: &PlantRoom)
 }
 
 // Answers each line behind the plant file.
-fn answer_all(rt: &LibcRuntime, text: &[u8], file: PlantFile, plant: &LanePlant) -> Result<(), AnyError> {
+fn answer_all(
+    rt: &LibcRuntime,
+    text: &[u8],
+    file: PlantFile,
+    plant: &LanePlant,
+) -> Result<(), AnyError> {
     let mut areas = search_room(rt.alloc())?;
     let mut at = file.end;
     let mut line = file.lines.saturating_add(1);
@@ -109,7 +119,12 @@ fn answer_all(rt: &LibcRuntime, text: &[u8], file: PlantFile, plant: &LanePlant)
 }
 
 // Answers one command.
-fn answer(rt: &LibcRuntime, command: Command, plant: &LanePlant, areas: &mut SearchRoom) -> Result<(), AnyError> {
+fn answer(
+    rt: &LibcRuntime,
+    command: Command,
+    plant: &LanePlant,
+    areas: &mut SearchRoom,
+) -> Result<(), AnyError> {
     match command {
         Command::One { start, goal } => {
             let found = one_way(

@@ -49,15 +49,17 @@ module _ {C : Type 0} (k : Kind C) (f : Floor C) (start goal : ℕ) where
   Scanned = count-scanned (one-way k f start goal .rows)
 
   pub beyond-answer : (n : ℕ) (old : List ℕ) → k .atMost (k .beyond) Cost ≡ true → n ≡ Scanned → (Beyond n ≡ one-answer k f start goal) × (old ≡ onto (one-nodes k f start goal) old)
-  beyond-answer n old e s =
-      (ap (λ (m : ℕ). Beyond m) s ∙ sym (cond-true _ (Beyond Scanned) (Route Cost Scanned (length (one-route k f start goal))) e),
-       ap (λ (xs : List ℕ). onto xs old) (sym (cond-true _ [] (one-route k f start goal) e)))
+  beyond-answer n old e s = (
+    ap (λ (m : ℕ). Beyond m) s ∙ sym (cond-true _ (Beyond Scanned) (Route Cost Scanned (length (one-route k f start goal))) e),
+    ap (λ (xs : List ℕ). onto xs old) (sym (cond-true _ [] (one-route k f start goal) e)),
+  )
 
   pub route-answer : (c : C) (n m : ℕ) (new old : List ℕ) → k .atMost (k .beyond) Cost ≡ false → c ≡ Cost → n ≡ Scanned → m ≡ length (one-route k f start goal) → new ≡ onto (one-route k f start goal) old
       → (Route c n m ≡ one-answer k f start goal) × (new ≡ onto (one-nodes k f start goal) old)
-  route-answer c n m new old e p q r w =
-      ((λ i. Route (p i) (q i) (r i)) ∙ sym (cond-false _ (Beyond Scanned) (Route Cost Scanned (length (one-route k f start goal))) e),
-       w ∙ ap (λ (xs : List ℕ). onto xs old) (sym (cond-false _ [] (one-route k f start goal) e)))
+  route-answer c n m new old e p q r w = (
+    (λ i. Route (p i) (q i) (r i)) ∙ sym (cond-false _ (Beyond Scanned) (Route Cost Scanned (length (one-route k f start goal))) e),
+    w ∙ ap (λ (xs : List ℕ). onto xs old) (sym (cond-false _ [] (one-route k f start goal) e)),
+  )
 
   -- what is right of the steps is right of the answer that tells them, and of the rows and nodes that are left
   module _ (laws : Laws k) (w : Right k f start goal Cost (one-route k f start goal) (one-way k f start goal .rows)) where
@@ -77,5 +79,5 @@ module _ {C : Type 0} (k : Kind C) (f : Floor C) (start goal : ℕ) where
     right-of a old new rows p q r =
         subst (λ (x : Answer C). Right k f start goal (cost-of k x) (take (node-count-of x) new) rows) (sym p)
         (subst (λ (xs : List ℕ). Right k f start goal (cost-of k (one-answer k f start goal)) (take (node-count-of (one-answer k f start goal)) xs) rows) (sym q)
-          (subst (λ (xs : List (Row C)). Right k f start goal (cost-of k (one-answer k f start goal)) (take (node-count-of (one-answer k f start goal)) (onto (one-nodes k f start goal) old)) xs) (sym r)
-            (right-when (k .atMost (k .beyond) Cost) old refl)))
+        (subst (λ (xs : List (Row C)). Right k f start goal (cost-of k (one-answer k f start goal)) (take (node-count-of (one-answer k f start goal)) (onto (one-nodes k f start goal) old)) xs) (sym r)
+        (right-when (k .atMost (k .beyond) Cost) old refl)))

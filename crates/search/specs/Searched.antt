@@ -22,12 +22,12 @@ use Rattle.search.specs.OneWay.{one-way, one-route}
 abbrev pub fault-of : {C : Type 0} → Floor C → ℕ → ℕ → ℕ → ℕ → ℕ → Option SearchFault
 fault-of f start goal rows entries places =
     cond (ltb start (f .nodes))
-      (cond (ltb goal (f .nodes))
-        (cond (ltb rows (f .nodes)) (Some Rows)
-          (cond (leb entries (length (f .lanes))) (Some Queue)
-            (cond (ltb places (f .nodes)) (Some ShortRoute) None)))
-        (Some (Goal goal)))
-      (Some (Start start))
+    (cond (ltb goal (f .nodes))
+    (cond (ltb rows (f .nodes)) (Some Rows)
+    (cond (leb entries (length (f .lanes))) (Some Queue)
+    (cond (ltb places (f .nodes)) (Some ShortRoute) None)))
+    (Some (Goal goal)))
+    (Some (Start start))
 
 abbrev pub one-answer : {C : Type 0} → Kind C → Floor C → ℕ → ℕ → Answer C
 one-answer k f start goal =

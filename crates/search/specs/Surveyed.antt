@@ -22,10 +22,10 @@ use Rattle.search.specs.Survey.{survey}
 abbrev pub survey-fault : {C : Type 0} → Floor C → ℕ → ℕ → ℕ → ℕ → Option SearchFault
 survey-fault f start rows entries costs =
     cond (ltb start (f .nodes))
-      (cond (ltb rows (f .nodes)) (Some Rows)
-        (cond (leb entries (length (f .lanes))) (Some Queue)
-          (cond (ltb costs (f .nodes)) (Some Costs) None)))
-      (Some (Start start))
+    (cond (ltb rows (f .nodes)) (Some Rows)
+    (cond (leb entries (length (f .lanes))) (Some Queue)
+    (cond (ltb costs (f .nodes)) (Some Costs) None)))
+    (Some (Start start))
 
 -- by the steps: the first rows, the count and the costs are theirs, and what is past them is as it was
 pub record Surveyed {C : Type 0} (k : Kind C) (f : Floor C) (start : ℕ) (rows rows′ : List (Row C)) (costs costs′ : List C) (n : ℕ) : Type 0 where

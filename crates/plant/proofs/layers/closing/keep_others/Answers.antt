@@ -22,15 +22,13 @@ loop-i-again c =
       | then-x-k w ↦
           let le : m ≤ i = c .loop-i .inv .0 in
           let ne : getD xs i 0 ≡ k → ⊥ = λ e. w .if-x-k .taken (at ∙ e) in
-          let fits : m < length ys = omega (arith, c .loop-i .kept .xs) in
-          (
+          let fits : m < length ys = omega (arith, c .loop-i .kept .xs) in (
             omega (arith, w .m-is),
             (λ j. take (w .m-is j) (w .xs-is j)) ∙ ap (λ (x : ℕ). take (m + 1) (set ys m x)) at ∙ keeps k i m xs ys lt (c .loop-i .inv .1) fits ne,
             ap (drop (i + 1)) (w .xs-is) ∙ behind-set i xs ys behind m (getD ys i 0) le,
           )
       | else-x-k w ↦
-          let is : getD xs i 0 ≡ k = sym at ∙ w .if-x-k .left in
-          (
+          let is : getD xs i 0 ≡ k = sym at ∙ w .if-x-k .left in (
             omega (arith, w .m-is),
             (λ j. take (w .m-is j) (w .xs-is j)) ∙ drops k i m xs ys lt (c .loop-i .inv .1) is,
             ap (drop (i + 1)) (w .xs-is) ∙ behind-more i xs ys behind,
