@@ -1,0 +1,14 @@
+pub mod Plain
+pub mod Written
+pub mod Form
+pub mod Items
+pub mod Turns
+pub mod Checks
+pub mod Read
+pub mod Stands
+pub mod Walk
+pub mod Lex
+pub mod Told
+pub mod Space
+pub mod Faults
+pub mod Checked
