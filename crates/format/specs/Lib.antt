@@ -12,3 +12,4 @@ pub mod Told
 pub mod Space
 pub mod Faults
 pub mod Checked
+pub mod Feed

@@ -1,4 +1,8 @@
 // The commands that follow a plant file, a line each.
+ghost use mathlib.Core.Path.{_≡_};
+ghost use Prim.Native.Nat.{_+_, _<_, _≤_};
+ghost use lib.ListN.{length, drop};
+ghost use Rattle.format.specs.Feed.{line-length};
 use crate::fault::ReadFault;
 use crate::form::is_over;
 use crate::form::take_close;
@@ -49,7 +53,11 @@ pub fn read_command(text: &[u8], from: usize, line: usize) -> Result<CommandLine
 }
 
 // The place behind the next line feed, or the text's end: there a line that is no form ends.
-pub fn line_feed_after(text: &[u8], from: usize) -> usize {
+pub fn line_feed_after(text: &[u8], from: usize) -> usize
+    ensures inside { λ r. ⌜ (from ≤ length (now (text .entry)) → r ≡ from + line-length (drop from (now (text .entry)))) ⌝ }
+    ensures outside { λ r. ⌜ (length (now (text .entry)) ≤ from → r ≡ length (now (text .entry))) ⌝ }
+    ensures onward { λ r. ⌜ (from < length (now (text .entry)) → from < r) ⌝ }
+{
     for i in from..text.len() {
         if text[i] == b'\n' {
             return i + 1;
