@@ -18,3 +18,11 @@ pub mod Same
 pub mod Stages
 pub mod Standing
 pub mod Tallying
+pub mod Numbered
+pub mod Picked
+pub mod Slots
+pub mod HallSides
+pub mod HallLanes
+pub mod HallInto
+pub mod HallLaws
+pub mod SmallHall

@@ -5,3 +5,4 @@ pub mod Laid
 pub mod Lone
 pub mod Tally
 pub mod Told
+pub mod Hall
