@@ -53,9 +53,11 @@ def plant_lines(nodes, lanes, marks):
         yield f"(mark (to {' '.join(map(show, to))}) (from {' '.join(map(show, frm))}))"
 
 
-def command(rnd, nodes):
+def command(rnd, nodes, lanes):
+    if rnd.random() < 0.4:
+        return f"({rnd.choice(['close', 'close', 'reopen'])} {rnd.randrange(lanes + 1)})"
     if rnd.random() < 0.1:
-        return rnd.choice(["(two 0 0)", "(close 0)", "(one)", "(one 0)", "(one 0 1 2)", "one 0 1", "", "(one 00 1)", "(one 0 4294967295)", "(one (0) 1)", "((one) 0 1)", "(((", "(one 0 -)", "(one 0 1) ", "(one 0 1", "(reopen 1)", "(one 0 4294967294)"])
+        return rnd.choice(["(two 0 0)", "(close)", "(close 0 0)", "(close -)", "(open 0)", "(one)", "(one 0)", "(one 0 1 2)", "one 0 1", "", "(one 00 1)", "(one 0 4294967295)", "(one (0) 1)", "((one) 0 1)", "(((", "(one 0 -)", "(one 0 1) ", "(one 0 1", "(reopen 1)", "(reopen 01)", "(one 0 4294967294)"])
     return f"(one {rnd.randrange(nodes + (rnd.random() < 0.05))} {rnd.randrange(nodes)})"
 
 
@@ -94,7 +96,8 @@ def case(rnd):
         v, w, c = lanes[k]
         lanes[k] = rnd.choice([(v, nodes, c), (nodes, w, c), (v, w, 1000001), (v, w, 1000000)])
     lines = list(plant_lines(nodes, lanes, marks))
-    lines += [command(rnd, nodes) for _ in range(rnd.randrange(12))]
+    many = rnd.randrange(12) if rnd.random() < 0.9 else 200
+    lines += [command(rnd, nodes, len(lanes)) for _ in range(many)]
     text = ("\n".join(lines) + "\n").encode()
     return damage(rnd, text) if rnd.random() < 0.4 else text
 

@@ -139,7 +139,7 @@ def read_plant(text, most):
     nodes, lanes, landmarks = (int(i[1]) for i in items[1:])
     line = 2
     plant = Plant()
-    plant.lanes, plant.marks = [], []
+    plant.lanes, plant.marks, plant.closed = [], [], set()
     for _ in range(lanes):
         items, at = take(text, at, line, ["lane", "N", "N", "N"])
         plant.lanes.append(tuple(int(i[1]) for i in items[1:]))
@@ -183,6 +183,30 @@ def bound(plant, v, w):
     return best
 
 
+def lane_cost(plant, k):
+    return BEYOND if k in plant.closed else plant.lanes[k][2]
+
+
+def close(plant, k):
+    if k >= len(plant.lanes):
+        raise Refused(9, "shift", k)
+    if k in plant.closed:
+        raise Refused(10, "shift", k)
+    if len(plant.closed) >= 64:
+        raise Refused(11, "shift", k)
+    plant.closed.add(k)
+    return f"(closed {k})"
+
+
+def reopen(plant, k):
+    if k >= len(plant.lanes):
+        raise Refused(9, "shift", k)
+    if k not in plant.closed:
+        raise Refused(12, "shift", k)
+    plant.closed.remove(k)
+    return f"(reopened {k})"
+
+
 def one_way(plant, start, goal):
     n = plant.nodes
     for v in (start, goal):
@@ -204,9 +228,9 @@ def one_way(plant, start, goal):
         if v == goal:
             break
         state[v] = "scanned"
-        for k, (tail, head, cost) in enumerate(plant.lanes):
+        for k, (tail, head, _) in enumerate(plant.lanes):
             if tail == v and state[head] in ("blank", "labelled"):
-                there = join(label[v], cost)
+                there = join(label[v], lane_cost(plant, k))
                 if there < label[head]:
                     label[head], lane[head], state[head] = there, k, "labelled"
     route, v = [goal], goal
@@ -221,6 +245,10 @@ def answer(text, at, line, plant):
     items, _ = read_line(text, at, line)
     if fits(items, ["one", "N", "N"]):
         return one_way(plant, int(items[1][1]), int(items[2][1]))
+    if fits(items, ["close", "N"]):
+        return close(plant, int(items[1][1]))
+    if fits(items, ["reopen", "N"]):
+        return reopen(plant, int(items[1][1]))
     raise Refused(14, "form", line)
 
 

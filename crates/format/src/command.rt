@@ -17,6 +17,9 @@ use crate::token::Line;
 pub enum Command {
     // a least route, searched from its start
     One { start: u32, goal: u32 },
+    // a lane is closed, or opened again
+    Close { lane: u32 },
+    Reopen { lane: u32 },
 }
 
 // A command, and where the next line begins.
@@ -26,27 +29,50 @@ pub struct CommandLine {
     pub end: usize,
 }
 
-// The whole line as (one START GOAL).
-fn one(src: &[u8], line: Line) -> Option<Command> {
+// The number of the whole line (WORD A).
+fn single(src: &[u8], line: Line, text: &[u8]) -> Option<u32> {
     let opened = take_open(src, line, line.from)?;
-    let said = take_word(src, line, opened, b"one")?;
-    let start = take_number(src, line, said)?;
-    let goal = take_number(src, line, start.end)?;
-    let end = take_close(src, line, goal.end)?;
-    if !is_over(src, line, end) {
-        return None;
+    let said = take_word(src, line, opened, text)?;
+    let first = take_number(src, line, said)?;
+    let end = take_close(src, line, first.end)?;
+    if is_over(src, line, end) {
+        Some(first.value)
+    } else {
+        None
     }
-    Some(Command::One {
-        start: start.value,
-        goal: goal.value,
-    })
+}
+
+// The numbers of the whole line (WORD A B).
+fn pair(src: &[u8], line: Line, text: &[u8]) -> Option<(u32, u32)> {
+    let opened = take_open(src, line, line.from)?;
+    let said = take_word(src, line, opened, text)?;
+    let first = take_number(src, line, said)?;
+    let second = take_number(src, line, first.end)?;
+    let end = take_close(src, line, second.end)?;
+    if is_over(src, line, end) {
+        Some((first.value, second.value))
+    } else {
+        None
+    }
+}
+
+// The whole line as a command.
+fn whole_command(src: &[u8], line: Line) -> Option<Command> {
+    if let Some((start, goal)) = pair(src, line, b"one") {
+        return Some(Command::One { start, goal });
+    }
+    if let Some(lane) = single(src, line, b"close") {
+        return Some(Command::Close { lane });
+    }
+    let lane = single(src, line, b"reopen")?;
+    Some(Command::Reopen { lane })
 }
 
 // The command on the line that begins at a byte.
 pub fn read_command(text: &[u8], from: usize, line: usize) -> Result<CommandLine, ReadFault> {
     let here = Line { number: line, from };
     let end = checked(text, here)?;
-    match one(text, here) {
+    match whole_command(text, here) {
         None => Err(ReadFault::Form { line }),
         Some(command) => Ok(CommandLine { command, end }),
     }

@@ -1,11 +1,13 @@
 // The memory of the program: the lists of its plant, and the work areas of its searches.
 use cost::length::Length;
+use cost::length_kind::LengthKind;
 use format::counts::Counts;
 use search::entry::Entry;
 use search::entry::EntryClone;
+use search::entry::no_entry;
 use search::row::Row;
 use search::row::RowClone;
-use search::row::State;
+use search::rows::blank_row;
 use std::alloc::AllocError;
 use std::alloc::Global;
 
@@ -51,20 +53,9 @@ pub fn plant_room(heap: Global) -> Result<PlantRoom, AllocError> {
 }
 
 pub fn search_room(heap: Global) -> Result<SearchRoom, AllocError> {
-    let none = Length::of(0);
-    let row = Row {
-        label: none,
-        lane: 0,
-        state: State::Blank,
-    };
-    let entry = Entry {
-        key: none,
-        label: none,
-        node: 0,
-    };
     Ok(SearchRoom {
-        rows: vec![in heap; row; 128]?,
-        queue: vec![in heap; entry; 513]?,
+        rows: vec![in heap; blank_row(); 128]?,
+        queue: vec![in heap; no_entry(); 513]?,
         route: vec![in heap; 0; 128]?,
     })
 }

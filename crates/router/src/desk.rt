@@ -5,10 +5,12 @@ use crate::areas::SearchRoom;
 use crate::areas::plant_room;
 use crate::areas::search_room;
 use crate::input::MOST_BYTES;
+use crate::show::Done;
+use crate::show::DoneDisplay;
 use crate::show::Found;
 use crate::show::FoundDisplay;
-use crate::show::Refused;
 use crate::show::RefusedDisplay;
+use crate::show::of_call;
 use crate::show::of_reader;
 use cost::length_kind::LengthKind;
 use format::command::Command;
@@ -18,7 +20,9 @@ use format::fault::ReadFault;
 use format::lists::ListsMut;
 use format::plant_file::PlantFile;
 use format::plant_file::read_plant;
-use plants::fault::PlantFault;
+use plant::layers::shift::Shift;
+use plant::layers::shift::ShiftFault;
+use plant::layers::shift_plant::ShiftPlant;
 use plants::lane_plant::LanePlant;
 use plants::lists::Lists;
 use plants::make::lone;
@@ -88,16 +92,13 @@ fn serve_plant(
     match make(&mut plant, file.counts.nodes, file.counts.landmarks, lists) {
         Ok(()) => answer_all(rt, text, file, &plant),
         Err(fault) => {
-            rt.println(Refused {
-                refusal: fault.refusal(),
-                line: None,
-            })?;
+            rt.println(of_call(fault.refusal()))?;
             Ok(())
         }
     }
 }
 
-// Answers each line behind the plant file.
+// Answers each line behind the plant file, over a shift in which nothing is closed at first.
 fn answer_all(
     rt: &LibcRuntime,
     text: &[u8],
@@ -105,11 +106,12 @@ fn answer_all(
     plant: &LanePlant,
 ) -> Result<(), AnyError> {
     let mut areas = search_room(rt.alloc())?;
+    let mut shift = Shift::fresh(*plant);
     let mut at = file.end;
     let mut line = file.lines.saturating_add(1);
     while at < text.len() {
         match read_command(text, at, line) {
-            Ok(read) => answer(rt, read.command, plant, &mut areas)?,
+            Ok(read) => answer(rt, read.command, &mut shift, &mut areas)?,
             Err(fault) => rt.println(of_reader(fault))?,
         }
         at = line_feed_after(text, at);
@@ -118,34 +120,51 @@ fn answer_all(
     Ok(())
 }
 
-// Answers one command.
+// Prints what came of closing or reopening a lane.
+fn tell(rt: &LibcRuntime, outcome: Result<(), ShiftFault>, done: Done) -> Result<(), AnyError> {
+    match outcome {
+        Ok(()) => rt.println(done)?,
+        Err(fault) => rt.println(of_call(fault.refusal()))?,
+    }
+    Ok(())
+}
+
+// Answers one command on the floor as it now is.
 fn answer(
     rt: &LibcRuntime,
     command: Command,
-    plant: &LanePlant,
+    shift: &mut Shift<LanePlant>,
     areas: &mut SearchRoom,
 ) -> Result<(), AnyError> {
     match command {
-        Command::One { start, goal } => {
-            let found = one_way(
-                plant,
-                start,
-                goal,
-                areas.rows.as_mut_slice(),
-                areas.queue.as_mut_slice(),
-                areas.route.as_mut_slice(),
-            );
-            match found {
-                Ok(answer) => rt.println(Found {
-                    answer,
-                    route: areas.route.as_slice(),
-                })?,
-                Err(fault) => rt.println(Refused {
-                    refusal: fault.refusal(),
-                    line: None,
-                })?,
-            }
-            Ok(())
-        }
+        Command::Close { lane } => tell(rt, shift.close(lane), Done::Closed(lane)),
+        Command::Reopen { lane } => tell(rt, shift.reopen(lane), Done::Reopened(lane)),
+        Command::One { start, goal } => search(rt, start, goal, shift, areas),
     }
+}
+
+// Answers a one-way search.
+fn search(
+    rt: &LibcRuntime,
+    start: u32,
+    goal: u32,
+    shift: &Shift<LanePlant>,
+    areas: &mut SearchRoom,
+) -> Result<(), AnyError> {
+    let found = one_way(
+        shift,
+        start,
+        goal,
+        areas.rows.as_mut_slice(),
+        areas.queue.as_mut_slice(),
+        areas.route.as_mut_slice(),
+    );
+    match found {
+        Ok(answer) => rt.println(Found {
+            answer,
+            route: areas.route.as_slice(),
+        })?,
+        Err(fault) => rt.println(of_call(fault.refusal()))?,
+    }
+    Ok(())
 }

@@ -56,6 +56,13 @@ pub impl fmt::Display for Refused as RefusedDisplay {
     }
 }
 
+pub fn of_call(refusal: Refusal) -> Refused {
+    Refused {
+        refusal,
+        line: None,
+    }
+}
+
 pub fn of_reader(fault: ReadFault) -> Refused {
     Refused {
         refusal: fault.refusal(),
@@ -84,6 +91,22 @@ pub impl fmt::Display for Found<'_> as FoundDisplay {
                 write!(f, "(route {metres} {scanned} ({nodes}))")
             }
             Answer::Beyond { scanned } => write!(f, "(beyond {scanned})"),
+        }
+    }
+}
+
+// A lane that was closed, or reopened.
+#[derive(Drop)]
+pub enum Done {
+    Closed(u32),
+    Reopened(u32),
+}
+
+pub impl fmt::Display for Done as DoneDisplay {
+    fn fmt<W: fmt::Write>(&self, f: &mut fmt::Formatter<W>) -> fmt::Result {
+        match self {
+            Done::Closed(lane) => write!(f, "(closed {lane})"),
+            Done::Reopened(lane) => write!(f, "(reopened {lane})"),
         }
     }
 }
