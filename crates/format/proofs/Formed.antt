@@ -7,8 +7,8 @@ use native.Mathlib.Omega.{arith}
 use Rattle.std.specs.declared.option.Option.{Option}
 use Rattle.std.specs.declared.option.Option.the-variants.{Some, None}
 use Rattle.format.specs.Form.{Token, begin, Scanned, line, unfit, scan}
-use Rattle.format.specs.Items.{unsound}
-use Rattle.format.specs.Turns.{got, lost, tokens}
+use Rattle.format.specs.Items.{Took, unsound, all}
+use Rattle.format.specs.Turns.{Fault, got, lost, tokens, form}
 use Rattle.format.specs.Walk.{Walked, ends, off, line-walk}
 use Rattle.format.proofs.Walks.{stripped, walk-is-scan}
 
@@ -39,3 +39,17 @@ bad-number n t rest b ts e u = rw (e, u)
 pub good-line : (n : ℕ) (t rest : List ℕ) (ts : List Token) → scan begin 1 t ≡ line ts rest → unsound false 1 ts ≡ None → tokens n t ≡ got ts rest
 unfolding tokens
 good-line n t rest ts e u = rw (e, u)
+
+-- the line's form from its tokens
+
+pub form-lost : {A : Type 0} (f : List Token → Took A) (n : ℕ) (t : List ℕ) (e : Fault) → tokens n t ≡ lost e → form f n t ≡ lost e
+unfolding form
+form-lost f n t e q = rw q
+
+pub form-other : {A : Type 0} (f : List Token → Took A) (n : ℕ) (t rest : List ℕ) (ts : List Token) → tokens n t ≡ got ts rest → all (f ts) ≡ None → form f n t ≡ lost (record { number = 14; first = n; second = 0; at = 0 })
+unfolding form
+form-other f n t rest ts q e = rw (q, e)
+
+pub form-got : {A : Type 0} (f : List Token → Took A) (n : ℕ) (t rest : List ℕ) (ts : List Token) (a : A) → tokens n t ≡ got ts rest → all (f ts) ≡ Some a → form f n t ≡ got a rest
+unfolding form
+form-got f n t rest ts a q e = rw (q, e)

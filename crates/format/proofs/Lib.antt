@@ -17,3 +17,11 @@ pub mod RunEnds
 pub mod Left
 pub mod Formed
 mod Fronts
+mod Places
+mod Taking
+mod Valued
+mod Kept
+mod Parts
+mod Answered
+mod Tables
+mod CommandLines

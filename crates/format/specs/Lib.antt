@@ -9,7 +9,10 @@ pub mod Stands
 pub mod Walk
 pub mod Lex
 pub mod Told
+pub mod Places
+pub mod Reads
+pub mod Reader
 pub mod Space
 pub mod Faults
 pub mod Checked
-pub mod Feed
+pub mod Commands

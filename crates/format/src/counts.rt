@@ -15,7 +15,7 @@ pub struct Counts {
 
 // The length of the shortest of the lists that have an entry for each lane, each node and one more, and each landmark and node.
 #[derive(Clone, Copy)]
-pub struct Space {
+pub(crate) struct Space {
     pub lanes: usize,
     pub firsts: usize,
     pub tables: usize,
@@ -35,7 +35,7 @@ fn has_room(counts: Counts, room: Counts, space: Space) -> bool
 }
 
 // Tests that there is room.
-pub fn check_room(counts: Counts, room: Counts, space: Space) -> Result<(), ReadFault>
+pub(crate) fn check_room(counts: Counts, room: Counts, space: Space) -> Result<(), ReadFault>
     ensures { λ r. ⌜ Cases r (λ _. room-for counts room space ≡ true) (λ f. (f ≡ ReadFault.Short) × (room-for counts room space ≡ false)) ⌝ }
 {
     if has_room(counts, room, space) {

@@ -55,7 +55,7 @@ fn line_of(fault: PlantFault, lanes: usize) -> usize
 }
 
 // A test's answer, placed.
-pub fn with_lanes(answer: Result<(), PlantFault>, lanes: usize) -> Result<(), Placed>
+pub(crate) fn with_lanes(answer: Result<(), PlantFault>, lanes: usize) -> Result<(), Placed>
     ensures { λ r. ⌜ r ≡ with-lanes lanes answer ⌝ }
 {
     match answer {

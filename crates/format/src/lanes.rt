@@ -1,16 +1,19 @@
 // The lines that give a plant's counts and its lanes.
+ghost use mathlib.Core.Path.{_≡_};
+ghost use lib.ListN.{drop, set};
+ghost use Rattle.format.specs.Items.{triple, lane-form};
+ghost use Rattle.format.specs.Turns.{form, forms};
+ghost use Rattle.format.specs.Reads.{NumbersRead, LinesRead, LanesKept};
 use crate::fault::ReadFault;
-use crate::form::is_over;
+use crate::form::Triple;
 use crate::form::take_triple;
 use crate::line::checked;
 use crate::token::Line;
 
-// The numbers of a line, and where the next line begins.
+// A line of three numbers, and where the next line begins.
 #[derive(Clone, Copy)]
-pub struct Numbers {
-    pub first: u32,
-    pub second: u32,
-    pub third: u32,
+pub struct NumbersLine {
+    pub numbers: Triple,
     pub end: usize,
 }
 
@@ -23,21 +26,22 @@ pub struct Lanes<'a> {
 }
 
 // A whole line (WORD A B C).
-pub fn numbers_line(src: &[u8], line: Line, text: &[u8]) -> Result<Numbers, ReadFault> {
+pub fn numbers_line(src: &[u8], line: Line, text: &[u8]) -> Result<NumbersLine, ReadFault>
+    ensures { λ r. ⌜ NumbersRead (now (src .entry)) (form (triple (now (text .entry))) (line .number) (drop (line .from) (now (src .entry)))) r ⌝ }
+{
     let end = checked(src, line)?;
     match take_triple(src, line, text) {
         None => Err(ReadFault::Form { line: line.number }),
-        Some(form) => {
-            if !is_over(src, line, form.end) {
-                return Err(ReadFault::Form { line: line.number });
-            }
-            Ok(Numbers {
-                first: form.first,
-                second: form.second,
-                third: form.third,
-                end,
-            })
-        }
+        Some(numbers) => Ok(NumbersLine { numbers, end }),
+    }
+}
+
+// Writes a value if the list has room for it.
+fn keep(list: &mut [u32], i: usize, value: u32)
+    ensures { λ _. ⌜ now (list .exit) ≡ set (now (list .entry)) i value ⌝ }
+{
+    if i < list.len() {
+        list[i] = value;
     }
 }
 
@@ -49,25 +53,20 @@ pub fn read_lanes(
     tails: &mut [u32],
     heads: &mut [u32],
     costs: &mut [u32],
-) -> Result<usize, ReadFault> {
+) -> Result<usize, ReadFault>
+    ensures { λ r. ⌜ LinesRead (now (src .entry)) count (λ ls. LanesKept ls (now (tails .entry)) (now (tails .exit)) (now (heads .entry)) (now (heads .exit)) (now (costs .entry)) (now (costs .exit))) (forms lane-form count 2 (drop from (now (src .entry)))) r ⌝ }
+{
     let mut at = from;
     for k in 0..count {
         let line = Line {
-            number: k as usize + 2,
+            number: 2 + k as usize,
             from: at,
         };
         let lane = numbers_line(src, line, b"lane")?;
-        keep(tails, k as usize, lane.first);
-        keep(heads, k as usize, lane.second);
-        keep(costs, k as usize, lane.third);
+        keep(tails, k as usize, lane.numbers.first);
+        keep(heads, k as usize, lane.numbers.second);
+        keep(costs, k as usize, lane.numbers.third);
         at = lane.end;
     }
     Ok(at)
-}
-
-// Writes a value if the list has room for it.
-fn keep(list: &mut [u32], i: usize, value: u32) {
-    if i < list.len() {
-        list[i] = value;
-    }
 }

@@ -4,15 +4,16 @@ ghost use Rattle.format.specs.Stands.{FormatStands};
 pub mod command;
 pub mod counts;
 pub mod fault;
-pub mod form;
-pub mod lanes;
-pub mod line;
+mod form;
+mod lanes;
+mod line;
 pub mod lists;
-pub mod marks;
-pub mod next;
-pub mod number;
-pub mod phase;
+mod marks;
+mod next;
+mod number;
+mod phase;
 pub mod plant_file;
+mod plant_lines;
 pub mod token;
 
 // A plant file is accepted exactly when the writer writes it.

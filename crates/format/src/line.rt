@@ -54,7 +54,7 @@ fn first_unsound(src: &[u8], line: Line) -> Option<usize>
 
 // Where a line ends.
 pub fn checked(src: &[u8], line: Line) -> Result<usize, ReadFault>
-    ensures { λ r. ⌜ Checked (line .number) (now (src .entry)) (drop (line .from) (now (src .entry))) r ⌝ }
+    ensures { λ r. ⌜ Checked (line .number) (now (src .entry)) (line .from) r ⌝ }
 {
     match line_end(src, line.from) {
         Err(byte) => Err(ReadFault::NoForm {

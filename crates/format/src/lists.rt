@@ -17,7 +17,7 @@ pub struct ListsMut<'a> {
 }
 
 // The length of the shortest list of each kind.
-pub fn space(lists: &ListsMut) -> Space
+pub(crate) fn space(lists: &ListsMut) -> Space
     ensures { λ r. ⌜ r ≡ space-of (held (now (lists .entry))) ⌝ }
 {
     Space {

@@ -1,6 +1,15 @@
 // The lines that give the tables of a plant's landmarks.
-ghost use Prim.Native.Nat.{_+_, _*_, _≤_};
-ghost use lib.ListN.{length};
+ghost use Prim.Native.Nat.{ℕ, _+_, _*_, _≤_};
+ghost use mathlib.Core.Path.{_≡_};
+ghost use lib.ListN.{length, take, drop, set};
+ghost use mathlib.Core.List.{List, _++_, map};
+ghost use Rattle.format.specs.Form.{Token as Spelt};
+ghost use Rattle.format.specs.Items.{all, table, mark-form};
+ghost use Rattle.format.specs.Places.{TokensAt, ValuesAt};
+ghost use Rattle.format.specs.Plain.{Mark as Landmark, to-row, from-row};
+ghost use Rattle.plants.specs.Index.{joined};
+ghost use Rattle.format.specs.Reads.{TookTable, MarkTaken, MarkRead, LinesRead, MarksAt, MarksKept};
+ghost use Rattle.format.specs.Turns.{form, forms};
 use crate::counts::Counts;
 use crate::fault::ReadFault;
 use crate::form::fill_values;
@@ -38,7 +47,9 @@ pub struct MarkLine {
 }
 
 // (WORD X…), with so many values.
-fn take_table(src: &[u8], line: Line, at: usize, text: &[u8], count: u32) -> Option<Table> {
+fn take_table(src: &[u8], line: Line, at: usize, text: &[u8], count: u32) -> Option<Table>
+    ensures { λ r. ⌜ ((ts : List Spelt) → TokensAt (now (src .entry)) at ts → TookTable count (now (src .entry)) (table (now (text .entry)) count ts) r) ⌝ }
+{
     let opened = take_open(src, line, at)?;
     let said = take_word(src, line, opened, text)?;
     let past = skip_values(src, line, said, count)?;
@@ -47,7 +58,9 @@ fn take_table(src: &[u8], line: Line, at: usize, text: &[u8], count: u32) -> Opt
 }
 
 // The whole line as (mark (to X…) (from X…)).
-fn take_mark(src: &[u8], line: Line, nodes: u32) -> Option<Mark> {
+fn take_mark(src: &[u8], line: Line, nodes: u32) -> Option<Mark>
+    ensures { λ r. ⌜ ((ts : List Spelt) → TokensAt (now (src .entry)) (line .from) ts → MarkTaken nodes (now (src .entry)) (all (mark-form nodes ts)) r) ⌝ }
+{
     let opened = take_open(src, line, line.from)?;
     let said = take_word(src, line, opened, b"mark")?;
     let to = take_table(src, line, said, b"to", nodes)?;
@@ -64,11 +77,22 @@ fn take_mark(src: &[u8], line: Line, nodes: u32) -> Option<Mark> {
 }
 
 // A whole line (mark (to X…) (from X…)).
-fn mark_line(src: &[u8], line: Line, nodes: u32) -> Result<MarkLine, ReadFault> {
+fn mark_line(src: &[u8], line: Line, nodes: u32) -> Result<MarkLine, ReadFault>
+    ensures { λ r. ⌜ MarkRead nodes (now (src .entry)) (form (mark-form nodes) (line .number) (drop (line .from) (now (src .entry)))) r ⌝ }
+{
     let end = checked(src, line)?;
     match take_mark(src, line, nodes) {
         None => Err(ReadFault::Form { line: line.number }),
         Some(mark) => Ok(MarkLine { mark, end }),
+    }
+}
+
+// Writes a mark if the list has room for it.
+fn keep_mark(marks: &mut [Mark], i: usize, mark: Mark)
+    ensures { λ _. ⌜ now (marks .exit) ≡ set (now (marks .entry)) i mark ⌝ }
+{
+    if i < marks.len() {
+        marks[i] = mark;
     }
 }
 
@@ -78,17 +102,17 @@ pub fn read_marks(
     from: usize,
     counts: Counts,
     marks: &mut [Mark],
-) -> Result<usize, ReadFault> {
+) -> Result<usize, ReadFault>
+    ensures { λ r. ⌜ LinesRead (now (src .entry)) (counts .landmarks) (λ ms. MarksKept (counts .nodes) (now (src .entry)) ms (now (marks .exit))) (forms (mark-form (counts .nodes)) (counts .landmarks) (2 + counts .lanes) (drop from (now (src .entry)))) r ⌝ }
+{
     let mut at = from;
     for m in 0..counts.landmarks {
         let line = Line {
-            number: counts.lanes as usize + m as usize + 2,
+            number: 2 + counts.lanes as usize + m as usize,
             from: at,
         };
         let read = mark_line(src, line, counts.nodes)?;
-        if (m as usize) < marks.len() {
-            marks[m as usize] = read.mark;
-        }
+        keep_mark(marks, m as usize, read.mark);
         at = read.end;
     }
     Ok(at)
@@ -132,15 +156,17 @@ pub fn test_marks(src: &[u8], marks: &[Mark], nodes: usize, lanes: Lanes) -> Res
 }
 
 // Writes the values from a place on into a row of a table.
-fn fill_row(src: &[u8], line: Line, at: usize, table: &mut [u32], first: usize, nodes: usize)
-    requires { ⌜ first + nodes ≤ length (now table) ⌝ }
+fn fill_row(src: &[u8], line: Line, at: usize, rows: &mut [u32], first: usize, nodes: usize)
+    requires { ⌜ first + nodes ≤ length (now rows) ⌝ }
+    ensures { λ _. ⌜ ((xs : List ℕ) → ValuesAt (now (src .entry)) at xs nodes → now (rows .exit) ≡ take first (now (rows .entry)) ++ (xs ++ drop (first + nodes) (now (rows .entry)))) ⌝ }
 {
-    fill_values(src, line, at, &mut table[first..first + nodes]);
+    fill_values(src, line, at, &mut rows[first..first + nodes]);
 }
 
 // Writes the values of each landmark into its row of the two tables.
 pub fn fill_tables(src: &[u8], marks: &[Mark], nodes: usize, to: &mut [u32], from: &mut [u32])
     requires { ⌜ length (now marks) * nodes ≤ length (now to) ⌝ ∗ ⌜ length (now marks) * nodes ≤ length (now from) ⌝ }
+    ensures { λ _. ⌜ ((ms : List Landmark) → MarksAt nodes (now (src .entry)) ms (now (marks .entry)) → (now (to .exit) ≡ joined (map to-row ms) ++ drop (length ms * nodes) (now (to .entry))) × (now (from .exit) ≡ joined (map from-row ms) ++ drop (length ms * nodes) (now (from .entry)))) ⌝ }
 {
     for m in 0..marks.len() {
         let mark = marks[m];

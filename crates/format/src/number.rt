@@ -1,3 +1,4 @@
+// Numbers as they are written.
 ghost use mathlib.Core.Path.{_≡_};
 ghost use Rattle.format.specs.Items.{numeral};
 

@@ -1,3 +1,4 @@
+// A line byte by byte: whether it is one bracket form, and where it ends.
 ghost use mathlib.Core.Path.{_≡_};
 ghost use lib.ListN.{drop};
 ghost use Rattle.format.specs.Form.{letters, digits, belongs};

@@ -1,9 +1,12 @@
 // Reading a plant file into the caller's lists.
 ghost use mathlib.Core.Path.{_≡_};
-ghost use mathlib.Core.List.{_++_};
+ghost use mathlib.Core.List.{List, _++_};
 ghost use Prim.Native.Nat.{_+_, _≤_};
 ghost use lib.ListN.{length, drop};
 ghost use Rattle.std.specs.Results.{Cases};
+ghost use Rattle.format.specs.Reader.{Written, TablesWritten, ReadAs, room-of};
+ghost use Rattle.format.specs.Plain.{Mark as Landmark};
+ghost use Rattle.format.specs.Reads.{MarksAt};
 ghost use Rattle.format.specs.Space.{held, after, space-of, Spacious};
 use crate::counts::Counts;
 use crate::counts::CountsDebug;
@@ -13,14 +16,12 @@ use crate::fault::PlacedToRead;
 use crate::fault::ReadFault;
 use crate::fault::with_lanes;
 use crate::lanes::Lanes;
-use crate::lanes::numbers_line;
-use crate::lanes::read_lanes;
 use crate::lists::ListsMut;
 use crate::lists::space;
 use crate::marks::Mark;
 use crate::marks::fill_tables;
-use crate::marks::read_marks;
 use crate::marks::test_marks;
+use crate::plant_lines::read_lines;
 use crate::token::Line;
 use plants::check::check_costs;
 use plants::check::check_counts;
@@ -76,7 +77,7 @@ fn settle(
     lists: ListsMut,
 ) -> Result<(), PlantFault>
     requires { ⌜ nodes ≤ 4096 ⌝ ∗ ⌜ Spacious nodes (length (now marks)) (now (lanes .tails)) (now (lanes .heads)) (now (lanes .costs)) (space-of (held lists)) ⌝ }
-    ensures { λ r. ⌜ Cases r (λ _. Unit {0}) (λ _. after (lists .exit) ≡ held (lists .entry)) ⌝ }
+    ensures { λ r. ⌜ Cases r (λ _. Written nodes (now (lanes .entry .tails)) (now (lanes .entry .heads)) (now (lanes .entry .costs)) (held (lists .entry)) (after (lists .exit)) × ((ms : List Landmark) → MarksAt nodes (now (text .entry)) ms (now (marks .entry)) → TablesWritten nodes ms (held (lists .entry)) (after (lists .exit)))) (λ _. after (lists .exit) ≡ held (lists .entry)) ⌝ }
 {
     let ListsMut {
         tails,
@@ -101,7 +102,7 @@ fn settle(
 
 // Reads a plant file from the text's beginning. Its lines are tested in turn, then the plant as a whole; the lists are written only if no test fails.
 pub fn read_plant(text: &[u8], room: Counts, lists: ListsMut) -> Result<PlantFile, ReadFault>
-    ensures { λ r. ⌜ Cases r (λ _. Unit {0}) (λ _. after (lists .exit) ≡ held (lists .entry)) ⌝ }
+    ensures { λ r. ⌜ ReadAs (room-of room (held (lists .entry))) (now (text .entry)) (held (lists .entry)) (after (lists .exit)) r ⌝ }
 {
     let space = space(&lists);
     let ListsMut {
@@ -114,30 +115,22 @@ pub fn read_plant(text: &[u8], room: Counts, lists: ListsMut) -> Result<PlantFil
         to,
         from,
     } = lists;
-    let start = Line { number: 1, from: 0 };
     let mut read_tails = [0u32; 16384];
     let mut read_heads = [0u32; 16384];
     let mut read_costs = [0u32; 16384];
     let mut marks = [Mark {
-        line: start,
+        line: Line { number: 1, from: 0 },
         to: 0,
         from: 0,
     }; 16];
-    let first = numbers_line(text, start, b"plant")?;
-    let counts = Counts {
-        nodes: first.first,
-        lanes: first.second,
-        landmarks: first.third,
-    };
-    let lanes_end = read_lanes(
+    let read = read_lines(
         text,
-        first.end,
-        counts.lanes,
         &mut read_tails,
         &mut read_heads,
         &mut read_costs,
+        &mut marks,
     )?;
-    let end = read_marks(text, lanes_end, counts, &mut marks)?;
+    let counts = read.counts;
     let count = counts.lanes as usize;
     let landmarks = counts.landmarks as usize;
     with_lanes(check_counts(counts.nodes, count, counts.landmarks), count)?;
@@ -163,7 +156,7 @@ pub fn read_plant(text: &[u8], room: Counts, lists: ListsMut) -> Result<PlantFil
     )?;
     Ok(PlantFile {
         counts,
-        end,
+        end: read.end,
         lines: 1 + count + landmarks,
     })
 }
