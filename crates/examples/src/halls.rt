@@ -25,11 +25,24 @@ fn search_six(rt: &LibcRuntime, hall: &Hall, start: u32, goal: u32) -> io::Resul
 }
 
 // Prints what a search has found.
-fn tell(rt: &LibcRuntime, start: u32, goal: u32, answer: Answer<Class>, route: &[u32]) -> io::Result<()> {
+fn tell(
+    rt: &LibcRuntime,
+    start: u32,
+    goal: u32,
+    answer: Answer<Class>,
+    route: &[u32],
+) -> io::Result<()> {
     match answer {
-        Answer::Route { cost, scanned, nodes } => {
+        Answer::Route {
+            cost,
+            scanned,
+            nodes,
+        } => {
             let grade = cost.grade;
-            println!(rt, "{start} to {goal}: class {grade}, {scanned} scanned, {nodes} nodes {route:?}")
+            println!(
+                rt,
+                "{start} to {goal}: class {grade}, {scanned} scanned, {nodes} nodes {route:?}"
+            )
         }
         Answer::Beyond { scanned } => println!(rt, "{start} to {goal}: beyond, {scanned} scanned"),
     }

@@ -39,11 +39,24 @@ fn route_on<P: Plant<Cost = Length>>(
 }
 
 // Prints what a search has found.
-fn tell(rt: &LibcRuntime, start: u32, goal: u32, answer: Answer<Length>, route: &[u32]) -> io::Result<()> {
+fn tell(
+    rt: &LibcRuntime,
+    start: u32,
+    goal: u32,
+    answer: Answer<Length>,
+    route: &[u32],
+) -> io::Result<()> {
     match answer {
-        Answer::Route { cost, scanned, nodes } => {
+        Answer::Route {
+            cost,
+            scanned,
+            nodes,
+        } => {
             let metres = cost.metres;
-            println!(rt, "{start} to {goal}: {metres} metres, {scanned} scanned, {nodes} nodes {route:?}")
+            println!(
+                rt,
+                "{start} to {goal}: {metres} metres, {scanned} scanned, {nodes} nodes {route:?}"
+            )
         }
         Answer::Beyond { scanned } => println!(rt, "{start} to {goal}: beyond, {scanned} scanned"),
     }

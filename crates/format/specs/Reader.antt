@@ -8,7 +8,7 @@ use lib.ListN.{length, drop}
 use Rattle.std.specs.declared.result.Result.{Result}
 use Rattle.std.specs.declared.result.Result.the-variants.{Ok, Err}
 use Rattle.plants.specs.Columns.{Columns}
-use Rattle.plants.specs.Index.{joined}
+use Rattle.plants.specs.Index.{joined, firsts, grouped}
 use Rattle.plants.specs.declared.fault.PlantFault.{PlantFault}
 use Rattle.format.specs.declared.counts.Counts.{Counts}
 use Rattle.format.specs.declared.fault.ReadFault.{ReadFault}
@@ -55,9 +55,9 @@ pub record Written (nodes : ℕ) (tails heads costs : List ℕ) (before after : 
   pub tails-are : after .tails ≡ tails ++ drop (length tails) (before .tails)
   pub heads-are : after .heads ≡ heads ++ drop (length heads) (before .heads)
   pub costs-are : after .costs ≡ costs ++ drop (length costs) (before .costs)
-  pub behind-out : drop (nodes + 1) (after .first-out) ≡ drop (nodes + 1) (before .first-out)
-  pub behind-in : drop (nodes + 1) (after .first-in) ≡ drop (nodes + 1) (before .first-in)
-  pub behind-by : drop (length tails) (after .by-head) ≡ drop (length tails) (before .by-head)
+  pub out-is : after .first-out ≡ firsts nodes tails ++ drop (nodes + 1) (before .first-out)
+  pub in-is : after .first-in ≡ firsts nodes heads ++ drop (nodes + 1) (before .first-in)
+  pub by-is : after .by-head ≡ grouped nodes heads ++ drop (length tails) (before .by-head)
 
 -- the two tables of each landmark, one after another
 pub record TablesWritten (n : ℕ) (ms : List Mark) (before after : Columns) : Type 0 where

@@ -4,6 +4,7 @@ ghost use mathlib.Core.List.{List, _++_};
 ghost use Prim.Native.Nat.{_+_, _≤_};
 ghost use lib.ListN.{length, drop};
 ghost use Rattle.std.specs.Results.{Cases};
+ghost use Rattle.plants.specs.Index.{firsts, grouped};
 ghost use Rattle.format.specs.Reader.{Written, TablesWritten, ReadAs, room-of};
 ghost use Rattle.format.specs.Plain.{Mark as Landmark};
 ghost use Rattle.format.specs.Reads.{MarksAt};
@@ -54,7 +55,7 @@ fn fill_index(
     by_head: &mut [u32],
 ) -> Result<(), PlantFault>
     requires { ⌜ nodes + 1 ≤ length (now «first_out») ⌝ ∗ ⌜ nodes + 1 ≤ length (now «first_in») ⌝ ∗ ⌜ length (now (lanes .tails)) ≤ length (now «by_head») ⌝ }
-    ensures { λ r. ⌜ Cases r (λ _. (drop (nodes + 1) (now («first_out» .exit)) ≡ drop (nodes + 1) (now («first_out» .entry))) × (drop (nodes + 1) (now («first_in» .exit)) ≡ drop (nodes + 1) (now («first_in» .entry))) × (drop (length (now (lanes .entry .tails))) (now («by_head» .exit)) ≡ drop (length (now (lanes .entry .tails))) (now («by_head» .entry)))) (λ _. (now («first_out» .exit) ≡ now («first_out» .entry)) × (now («first_in» .exit) ≡ now («first_in» .entry)) × (now («by_head» .exit) ≡ now («by_head» .entry))) ⌝ }
+    ensures { λ r. ⌜ Cases r (λ _. (now («first_out» .exit) ≡ firsts nodes (now (lanes .entry .tails)) ++ drop (nodes + 1) (now («first_out» .entry))) × (now («first_in» .exit) ≡ firsts nodes (now (lanes .entry .heads)) ++ drop (nodes + 1) (now («first_in» .entry))) × (now («by_head» .exit) ≡ grouped nodes (now (lanes .entry .heads)) ++ drop (length (now (lanes .entry .tails))) (now («by_head» .entry)))) (λ _. (now («first_out» .exit) ≡ now («first_out» .entry)) × (now («first_in» .exit) ≡ now («first_in» .entry)) × (now («by_head» .exit) ≡ now («by_head» .entry))) ⌝ }
 {
     let firsts = nodes as usize + 1;
     let count = lanes.tails.len();
