@@ -57,8 +57,8 @@ def command(rnd, nodes, lanes):
     if rnd.random() < 0.4:
         return f"({rnd.choice(['close', 'close', 'reopen'])} {rnd.randrange(lanes + 1)})"
     if rnd.random() < 0.1:
-        return rnd.choice(["(two 0 0)", "(close)", "(close 0 0)", "(close -)", "(open 0)", "(one)", "(one 0)", "(one 0 1 2)", "one 0 1", "", "(one 00 1)", "(one 0 4294967295)", "(one (0) 1)", "((one) 0 1)", "(((", "(one 0 -)", "(one 0 1) ", "(one 0 1", "(reopen 1)", "(reopen 01)", "(one 0 4294967294)"])
-    return f"(one {rnd.randrange(nodes + (rnd.random() < 0.05))} {rnd.randrange(nodes)})"
+        return rnd.choice(["(walk 0 0)", "(two 0)", "(two 0 0 0)", "(close)", "(close 0 0)", "(close -)", "(open 0)", "(one)", "(one 0)", "(one 0 1 2)", "one 0 1", "", "(one 00 1)", "(one 0 4294967295)", "(one (0) 1)", "((one) 0 1)", "(((", "(one 0 -)", "(one 0 1) ", "(one 0 1", "(reopen 1)", "(reopen 01)", "(one 0 4294967294)"])
+    return f"({rnd.choice(['one', 'two', 'two'])} {rnd.randrange(nodes + (rnd.random() < 0.05))} {rnd.randrange(nodes)})"
 
 
 def damage(rnd, text):

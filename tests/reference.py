@@ -241,10 +241,67 @@ def one_way(plant, start, goal):
     return f"(route {label[goal]} {scanned} ({nodes}))"
 
 
+class Side:
+    """One side of a two-way search: its rows, and the last key that it picked."""
+
+    def __init__(self, n, source):
+        self.label, self.lane, self.state = [BEYOND] * n, [0] * n, ["blank"] * n
+        self.label[source], self.state[source] = 0, "labelled"
+        self.last = 0
+
+
+def two_way(plant, start, goal):
+    n = plant.nodes
+    for v in (start, goal):
+        if v >= n:
+            raise Refused(7, "search", v)
+    sides = [Side(n, start), Side(n, goal)]
+    bounds = [lambda v: bound(plant, v, goal), lambda v: bound(plant, start, v)]
+    best, meeting = (0, start) if start == goal else (BEYOND, None)
+    turn = 0
+    while True:
+        near, far = sides[turn], sides[1 - turn]
+        picks = [(join(near.label[v], bounds[turn](v)), near.label[v], v) for v in range(n) if near.state[v] == "labelled"]
+        if not picks or min(picks)[0] >= best:
+            break
+        key, label, v = min(picks)
+        near.last = key
+        if far.state[v] == "scanned":
+            near.state[v] = "scanned"
+        elif join(label, rest(far.last, bounds[1 - turn](v))) >= best:
+            near.state[v] = "dropped"
+        else:
+            near.state[v] = "scanned"
+            for k, (tail, head, _) in enumerate(plant.lanes):
+                here, there = (tail, head) if turn == 0 else (head, tail)
+                if here == v and near.state[there] in ("blank", "labelled"):
+                    cost = join(label, lane_cost(plant, k))
+                    if cost < near.label[there]:
+                        near.label[there], near.lane[there], near.state[there] = cost, k, "labelled"
+                        both = join(cost, far.label[there])
+                        if both < best:
+                            best, meeting = both, there
+        turn = 1 - turn
+    counts = " ".join(str(side.state.count("scanned")) for side in sides)
+    if best == BEYOND:
+        return f"(beyond {counts})"
+    route, v = [meeting], meeting
+    while v != start:
+        v = plant.lanes[sides[0].lane[v]][0]
+        route.insert(0, v)
+    v = meeting
+    while v != goal:
+        v = plant.lanes[sides[1].lane[v]][1]
+        route.append(v)
+    return f"(route {best} {counts} ({' '.join(map(str, route))}))"
+
+
 def answer(text, at, line, plant):
     items, _ = read_line(text, at, line)
     if fits(items, ["one", "N", "N"]):
         return one_way(plant, int(items[1][1]), int(items[2][1]))
+    if fits(items, ["two", "N", "N"]):
+        return two_way(plant, int(items[1][1]), int(items[2][1]))
     if fits(items, ["close", "N"]):
         return close(plant, int(items[1][1]))
     if fits(items, ["reopen", "N"]):

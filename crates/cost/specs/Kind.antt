@@ -1,4 +1,4 @@
--- A cost kind: its operations, and the laws that the searches rest on.
+-- A cost kind: its operations, and the laws that the router rests on.
 use mathlib.Core.Path.{_≡_}
 use mathlib.Core.Bool.{Bool, true, false}
 use mathlib.Core.Logic.{_⊎_}

@@ -11,7 +11,7 @@ use Rattle.std.specs.declared.option.Option.the-variants.{Some, None}
 use Rattle.std.specs.declared.result.Result.{Result}
 use Rattle.std.specs.declared.result.Result.the-variants.{Ok, Err}
 use Rattle.format.specs.declared.command.Command.{Command}
-use Rattle.format.specs.declared.command.Command.the-variants.{One, Close, Reopen}
+use Rattle.format.specs.declared.command.Command.the-variants.{One, Two, Close, Reopen}
 use Rattle.format.specs.declared.command.CommandLine.{CommandLine}
 use Rattle.format.specs.declared.fault.ReadFault.{ReadFault}
 use Rattle.format.specs.Faults.{told}
@@ -21,6 +21,9 @@ use Rattle.format.specs.Turns.{Got, got, lost, on, or-14, tokens}
 
 abbrev pub one-word : List ℕ
 one-word = codes "one"
+
+abbrev pub two-word : List ℕ
+two-word = codes "two"
 
 abbrev pub close-word : List ℕ
 close-word = codes "close"
@@ -46,12 +49,13 @@ abbrev pub or-next : {A : Type 0} → (A → Command) → Option A → Option Co
 or-next f None next = next
 or-next f (Some a) next = Some (f a)
 
--- (one START GOAL), (close LANE) or (reopen LANE)
+-- (one START GOAL), (two START GOAL), (close LANE) or (reopen LANE)
 abbrev pub command-of : List Token → Option Command
 command-of ts =
     or-next (λ (p : ℕ × ℕ). One (p .0) (p .1)) (all (pair-form one-word ts))
+    (or-next (λ (p : ℕ × ℕ). Two (p .0) (p .1)) (all (pair-form two-word ts))
     (or-next Close (all (single-form close-word ts))
-    (or-next Reopen (all (single-form reopen-word ts)) None))
+    (or-next Reopen (all (single-form reopen-word ts)) None)))
 
 -- the command on line n
 unfoldable pub command-line : ℕ → List ℕ → Got Command

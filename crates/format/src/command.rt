@@ -19,8 +19,10 @@ use crate::token::Line;
 // What a line asks for.
 #[derive(Clone, Copy, PartialEq, Eq, Debug)]
 pub enum Command {
-    // a least route, searched from its start
+    // a least route, looked for from its start
     One { start: u32, goal: u32 },
+    // a least route, looked for from both ends
+    Two { start: u32, goal: u32 },
     // a lane is closed, or opened again
     Close { lane: u32 },
     Reopen { lane: u32 },
@@ -68,6 +70,10 @@ fn take_command(src: &[u8], line: Line) -> Option<Command>
 {
     match take_pair(src, line, b"one") {
         Some((start, goal)) => return Some(Command::One { start, goal }),
+        None => {}
+    }
+    match take_pair(src, line, b"two") {
+        Some((start, goal)) => return Some(Command::Two { start, goal }),
         None => {}
     }
     match take_single(src, line, b"close") {

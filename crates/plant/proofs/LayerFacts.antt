@@ -42,6 +42,11 @@ at-from-shut b at h is n (l ∷ ls) v =
     let more = at-from-shut b at h (λ j. is (suc j)) (suc n) ls v in
     λ i. cond (eqb (h (is 0) l i) v) (n ∷ more i) (more i)
 
+-- nothing is shut
+pub shut-none : {C : Type 0} (b : C) (ls : List (Lane C)) → shut-lanes b (λ _. false) ls ≡ ls
+shut-none b [] = refl
+shut-none b (l ∷ ls) = ap (λ x. l ∷ x) (shut-none b ls)
+
 -- the lane below, of which l is the lane with its cost as shut
 pub shut-from : {C : Type 0} (b : C) (is : ℕ → Bool) (ls : List (Lane C)) (i : ℕ) (l : Lane C) → nth (shut-lanes b is ls) i ≡ Some l → (m : Lane C) × ((nth ls i ≡ Some m) × (l ≡ shut-lane b (is i) m))
 shut-from b is [] i l e = let z : _≡_ {A = ℕ} 0 1 = cc in absurd (omega arith)

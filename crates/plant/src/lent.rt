@@ -1,4 +1,4 @@
-// A plant by reference is a plant, so that a layer or a search takes one either way.
+// A plant by reference is a plant, so that a layer takes one either way.
 ghost use denote.Ref.{now};
 use crate::lane::Lane;
 use crate::plant::Plant;

@@ -1,4 +1,4 @@
-// Plants: what a floor to be searched answers and means, layers over any plant, and how a refusal is told.
+// Plants: what a floor answers and means, layers over any plant, and how a refusal is told.
 pub mod lane;
 pub mod layers;
 pub mod lent;

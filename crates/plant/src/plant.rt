@@ -6,7 +6,7 @@ ghost use Rattle.plant.specs.Floor.{Floor, FloorLaws, out-of, into-of};
 use crate::lane::Lane;
 use cost::kind::CostKind;
 
-// A floor that routes are searched on. A question changes nothing; outside its range it answers none, and the bound zero.
+// A floor that routes are looked for on. A question changes nothing; outside its range it answers none, and the bound zero.
 pub trait Plant {
     type Cost: CostKind;
 

@@ -1,4 +1,4 @@
-// Plants to search on: the lane plant over lists of the caller, and the hall over a grid of cells.
+// Plants: the lane plant over lists of the caller, and the hall over a grid of cells.
 pub mod check;
 pub mod fault;
 mod firsts;

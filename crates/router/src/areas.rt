@@ -5,6 +5,8 @@ use format::counts::Counts;
 use search::entry::Entry;
 use search::entry::EntryClone;
 use search::entry::no_entry;
+use search::reply::Reply;
+use search::reply::ReplyClone;
 use search::row::Row;
 use search::row::RowClone;
 use search::rows::blank_row;
@@ -31,12 +33,20 @@ pub struct PlantRoom {
     pub from: Vec<u32>,
 }
 
-// Room for a search of the largest plant.
+// Room for a search of the largest plant, from both ends.
 #[derive(Drop)]
 pub struct SearchRoom {
     pub rows: Vec<Row<Length>>,
+    pub back_rows: Vec<Row<Length>>,
     pub queue: Vec<Entry<Length>>,
-    pub route: Vec<u32>,
+    pub back_queue: Vec<Entry<Length>>,
+}
+
+// Room for the replies to so many calls, and for a route each.
+#[derive(Drop)]
+pub struct ReplyRoom {
+    pub replies: Vec<Reply<Length>>,
+    pub routes: Vec<u32>,
 }
 
 pub fn plant_room(heap: Global) -> Result<PlantRoom, AllocError> {
@@ -55,7 +65,15 @@ pub fn plant_room(heap: Global) -> Result<PlantRoom, AllocError> {
 pub fn search_room(heap: Global) -> Result<SearchRoom, AllocError> {
     Ok(SearchRoom {
         rows: vec![in heap; blank_row(); 128]?,
+        back_rows: vec![in heap; blank_row(); 128]?,
         queue: vec![in heap; no_entry(); 513]?,
-        route: vec![in heap; 0; 128]?,
+        back_queue: vec![in heap; no_entry(); 513]?,
+    })
+}
+
+pub fn reply_room(heap: Global, calls: usize) -> Result<ReplyRoom, AllocError> {
+    Ok(ReplyRoom {
+        replies: vec![in heap; Reply::Closed(0); calls]?,
+        routes: vec![in heap; 0; calls.saturating_mul(128)]?,
     })
 }

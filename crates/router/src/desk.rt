@@ -1,17 +1,16 @@
 // The program's work: the plant first, then the commands in turn.
 use crate::areas::MOST;
 use crate::areas::PlantRoom;
-use crate::areas::SearchRoom;
 use crate::areas::plant_room;
+use crate::areas::reply_room;
 use crate::areas::search_room;
 use crate::input::MOST_BYTES;
-use crate::show::Done;
-use crate::show::DoneDisplay;
-use crate::show::Found;
-use crate::show::FoundDisplay;
 use crate::show::RefusedDisplay;
+use crate::show::Told;
+use crate::show::ToldDisplay;
 use crate::show::of_call;
 use crate::show::of_reader;
+use cost::length::Length;
 use cost::length_kind::LengthKind;
 use format::command::Command;
 use format::command::line_feed_after;
@@ -20,16 +19,16 @@ use format::fault::ReadFault;
 use format::lists::ListsMut;
 use format::plant_file::PlantFile;
 use format::plant_file::read_plant;
-use plant::layers::shift::Shift;
-use plant::layers::shift::ShiftFault;
-use plant::layers::shift_plant::ShiftPlant;
 use plants::lane_plant::LanePlant;
 use plants::lists::Lists;
 use plants::make::lone;
 use plants::make::make;
 use plants::questions::LanePlantPlant;
+use search::call::Call;
 use search::entry_rank::EntryRanked;
-use search::one_way::one_way;
+use search::reply::Reply;
+use search::serve::serve as serve_calls;
+use std::alloc::AllocError;
 use std::error::AnyError;
 
 // Prints the answer to each command of the text, or why its plant is refused.
@@ -98,21 +97,38 @@ fn serve_plant(
     }
 }
 
-// Answers each line behind the plant file, over a shift in which nothing is closed at first.
-fn answer_all(
-    rt: &LibcRuntime,
+// What is read of a line: a call, or a fault.
+#[derive(Clone, Copy)]
+pub enum LineRead {
+    Call,
+    Fault(ReadFault),
+}
+
+fn call_of(command: Command) -> Call {
+    match command {
+        Command::One { start, goal } => Call::One { start, goal },
+        Command::Two { start, goal } => Call::Two { start, goal },
+        Command::Close { lane } => Call::Close(lane),
+        Command::Reopen { lane } => Call::Reopen(lane),
+    }
+}
+
+// Reads each line behind the plant file.
+fn read_lines(
     text: &[u8],
     file: PlantFile,
-    plant: &LanePlant,
-) -> Result<(), AnyError> {
-    let mut areas = search_room(rt.alloc())?;
-    let mut shift = Shift::fresh(*plant);
+    calls: &mut Vec<Call>,
+    lines: &mut Vec<LineRead>,
+) -> Result<(), AllocError> {
     let mut at = file.end;
     let mut line = file.lines.saturating_add(1);
     while at < text.len() {
         match read_command(text, at, line) {
-            Ok(read) => answer(rt, read.command, &mut shift, &mut areas)?,
-            Err(fault) => rt.println(of_reader(fault))?,
+            Ok(read) => {
+                calls.push(call_of(read.command))?;
+                lines.push(LineRead::Call)?;
+            }
+            Err(fault) => lines.push(LineRead::Fault(fault))?,
         }
         at = line_feed_after(text, at);
         line = line.saturating_add(1);
@@ -120,51 +136,61 @@ fn answer_all(
     Ok(())
 }
 
-// Prints what came of closing or reopening a lane.
-fn tell(rt: &LibcRuntime, outcome: Result<(), ShiftFault>, done: Done) -> Result<(), AnyError> {
-    match outcome {
-        Ok(()) => rt.println(done)?,
-        Err(fault) => rt.println(of_call(fault.refusal()))?,
-    }
-    Ok(())
-}
-
-// Answers one command on the floor as it now is.
-fn answer(
+// Makes all calls on a fresh shift over the plant, and prints the replies and the faults in the order of the lines.
+fn answer_all(
     rt: &LibcRuntime,
-    command: Command,
-    shift: &mut Shift<LanePlant>,
-    areas: &mut SearchRoom,
+    text: &[u8],
+    file: PlantFile,
+    plant: &LanePlant,
 ) -> Result<(), AnyError> {
-    match command {
-        Command::Close { lane } => tell(rt, shift.close(lane), Done::Closed(lane)),
-        Command::Reopen { lane } => tell(rt, shift.reopen(lane), Done::Reopened(lane)),
-        Command::One { start, goal } => search(rt, start, goal, shift, areas),
-    }
-}
-
-// Answers a one-way search.
-fn search(
-    rt: &LibcRuntime,
-    start: u32,
-    goal: u32,
-    shift: &Shift<LanePlant>,
-    areas: &mut SearchRoom,
-) -> Result<(), AnyError> {
-    let found = one_way(
-        shift,
-        start,
-        goal,
+    let mut calls = Vec::new(rt.alloc());
+    let mut lines = Vec::new(rt.alloc());
+    read_lines(text, file, &mut calls, &mut lines)?;
+    let mut areas = search_room(rt.alloc())?;
+    let mut told = reply_room(rt.alloc(), calls.len())?;
+    let served = serve_calls(
+        plant,
+        calls.as_slice(),
         areas.rows.as_mut_slice(),
+        areas.back_rows.as_mut_slice(),
         areas.queue.as_mut_slice(),
-        areas.route.as_mut_slice(),
+        areas.back_queue.as_mut_slice(),
+        told.replies.as_mut_slice(),
+        told.routes.as_mut_slice(),
     );
-    match found {
-        Ok(answer) => rt.println(Found {
-            answer,
-            route: areas.route.as_slice(),
-        })?,
-        Err(fault) => rt.println(of_call(fault.refusal()))?,
+    match served {
+        Ok(()) => print_all(
+            rt,
+            lines.as_slice(),
+            told.replies.as_slice(),
+            told.routes.as_slice(),
+        ),
+        Err(fault) => {
+            rt.println(of_call(fault.refusal()))?;
+            Ok(())
+        }
+    }
+}
+
+// Prints a line for each line read: the next reply, or its fault.
+fn print_all(
+    rt: &LibcRuntime,
+    lines: &[LineRead],
+    replies: &[Reply<Length>],
+    routes: &[u32],
+) -> Result<(), AnyError> {
+    let mut next = 0usize;
+    for line in lines {
+        match *line {
+            LineRead::Fault(fault) => rt.println(of_reader(fault))?,
+            LineRead::Call => {
+                if next < replies.len() {
+                    let reply = replies[next];
+                    rt.println(Told { reply, routes })?;
+                }
+                next = next.saturating_add(1);
+            }
+        }
     }
     Ok(())
 }

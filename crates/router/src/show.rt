@@ -3,7 +3,9 @@ use cost::length::Length;
 use format::fault::ReadFault;
 use plant::refusal::Layer;
 use plant::refusal::Refusal;
-use search::answer::Answer;
+use search::reply::CallFault;
+use search::reply::Counts;
+use search::reply::Reply;
 use std::fmt;
 
 // The nodes of a route, parted by spaces.
@@ -70,43 +72,64 @@ pub fn of_reader(fault: ReadFault) -> Refused {
     }
 }
 
-// What a one-way search found, with the list that its route stands in.
-#[derive(Drop)]
-pub struct Found<'a> {
-    pub answer: Answer<Length>,
-    pub route: &'a [u32],
+fn fault_refusal(fault: CallFault) -> Refusal {
+    match fault {
+        CallFault::Search(x) => x.refusal(),
+        CallFault::Shift(x) => x.refusal(),
+    }
 }
 
-pub impl fmt::Display for Found<'_> as FoundDisplay {
+// How many nodes a search has scanned, on one side or on both.
+#[derive(Drop)]
+struct Scans(Counts);
+
+impl fmt::Display for Scans as ScansDisplay {
     fn fmt<W: fmt::Write>(&self, f: &mut fmt::Formatter<W>) -> fmt::Result {
-        match self.answer {
-            Answer::Route {
-                cost,
-                scanned,
-                nodes,
-            } => {
-                let metres = cost.metres;
-                let most = self.route.len().min(nodes as usize);
-                let nodes = Nodes(&self.route[0..most]);
-                write!(f, "(route {metres} {scanned} ({nodes}))")
-            }
-            Answer::Beyond { scanned } => write!(f, "(beyond {scanned})"),
+        match self.0 {
+            Counts::Forward(n) => write!(f, "{n}"),
+            Counts::Both(n, m) => write!(f, "{n} {m}"),
         }
     }
 }
 
-// A lane that was closed, or reopened.
+// The reply to a call, with the list that routes stand in.
 #[derive(Drop)]
-pub enum Done {
-    Closed(u32),
-    Reopened(u32),
+pub struct Told<'a> {
+    pub reply: Reply<Length>,
+    pub routes: &'a [u32],
 }
 
-pub impl fmt::Display for Done as DoneDisplay {
+// The nodes of a route, as many as the list has of them.
+fn nodes_at(routes: &[u32], from: usize, nodes: u32) -> Nodes {
+    let low = from.min(routes.len());
+    let high = low.saturating_add(nodes as usize).min(routes.len());
+    Nodes(&routes[low..high])
+}
+
+pub impl fmt::Display for Told<'_> as ToldDisplay {
     fn fmt<W: fmt::Write>(&self, f: &mut fmt::Formatter<W>) -> fmt::Result {
-        match self {
-            Done::Closed(lane) => write!(f, "(closed {lane})"),
-            Done::Reopened(lane) => write!(f, "(reopened {lane})"),
+        match self.reply {
+            Reply::Closed(lane) => write!(f, "(closed {lane})"),
+            Reply::Reopened(lane) => write!(f, "(reopened {lane})"),
+            Reply::Route {
+                cost,
+                counts,
+                from,
+                nodes,
+            } => {
+                let metres = cost.metres;
+                let scans = Scans(counts);
+                let nodes = nodes_at(self.routes, from, nodes);
+                write!(f, "(route {metres} {scans} ({nodes}))")
+            }
+            Reply::Beyond { counts } => {
+                let scans = Scans(counts);
+                write!(f, "(beyond {scans})")
+            }
+            Reply::Refused(fault) => {
+                let told = of_call(fault_refusal(fault));
+                write!(f, "{told}")
+            }
         }
     }
 }

@@ -11,7 +11,7 @@ use lib.Seq.{take-append-seam}
 use Rattle.std.proofs.shelf.Lists.{length-take-le}
 use Rattle.std.proofs.shelf.Tests.{cond-true, cond-false, lt-ltb, le-ltb, lt-leb}
 use Rattle.cost.specs.Kind.{Kind, Laws}
-use Rattle.plant.specs.Floor.{Floor, FloorLaws}
+use Rattle.plant.specs.Floor.{Floor}
 use Rattle.search.specs.declared.answer.Answer.{Answer}
 use Rattle.search.specs.declared.answer.Answer.the-variants.{Route, Beyond}
 use Rattle.search.specs.declared.fault.SearchFault.{SearchFault}
@@ -19,7 +19,7 @@ use Rattle.search.specs.declared.fault.SearchFault.the-variants.{Start, Goal, 
 use Rattle.search.specs.declared.row.Row.{Row}
 use Rattle.search.specs.Steps.{count-scanned}
 use Rattle.search.specs.OneWay.{one-way, one-route}
-use Rattle.search.specs.Answer.{RouteOf, Right}
+use Rattle.search.specs.Answer.{Right}
 use Rattle.search.specs.Lists.{onto}
 use Rattle.search.specs.Searched.{fault-of, one-answer, one-nodes, cost-of, node-count-of}
 use Rattle.search.proofs.Order.{is-beyond}
@@ -36,10 +36,18 @@ no-fault f start goal rows entries places a b c d e =
     ∙ cond-false (ltb places (f .nodes)) (Some ShortRoute) None (le-ltb places (f .nodes) e))
 
 -- what was written over the first n entries
-pub written : (n : ℕ) (new old told : List ℕ) → n ≤ length new → take n new ≡ told → drop n new ≡ drop n old → (n ≡ length told) × (new ≡ onto told old)
+pub written : {A : Type 0} (n : ℕ) (new old told : List A) → n ≤ length new → take n new ≡ told → drop n new ≡ drop n old → (n ≡ length told) × (new ≡ onto told old)
 written n new old told le front back =
     let long : n ≡ length told = sym (length-take-le n new le) ∙ ap length front in
     (long, sym (take-append-drop n new) ∙ (λ i. front i ++ back i) ∙ ap (λ (m : ℕ). told ++ drop m old) long)
+
+-- what is right of a cost and its nodes is right of the answer that tells them: of no nodes where the cost is beyond
+module _ {C : Type 0} (k : Kind C) (f : Floor C) (s t : ℕ) (laws : Laws k) {c : C} {nodes : List ℕ} {rows : List (Row C)} (w : Right k f s t c nodes rows) where
+  pub right-told : (b : Bool) (old : List ℕ) → k .atMost (k .beyond) c ≡ b → Right k f s t (cond b (k .beyond) c) (take (cond b 0 (length nodes)) (onto (cond b [] nodes) old)) rows
+  right-told true old e =
+      let at : Right k f s t (k .beyond) nodes rows = subst (λ (x : C). Right k f s t x nodes rows) (is-beyond k laws c e) w in
+      record { optimal = at .optimal; route = λ n. absurd (n refl); beyond = at .beyond; scans = at .scans }
+  right-told false old e = subst (λ (xs : List ℕ). Right k f s t c xs rows) (sym (take-append-seam nodes (drop (length nodes) old))) w
 
 module _ {C : Type 0} (k : Kind C) (f : Floor C) (start goal : ℕ) where
   abbrev Cost : C
@@ -67,12 +75,8 @@ module _ {C : Type 0} (k : Kind C) (f : Floor C) (start goal : ℕ) where
         let a = cond b (Beyond Scanned) (Route Cost Scanned (length (one-route k f start goal))) in
         let new = onto (cond b [] (one-route k f start goal)) old in
         Right k f start goal (cost-of k a) (take (node-count-of a) new) (one-way k f start goal .rows)
-    right-when true old e =
-        let far : Cost ≡ k .beyond = is-beyond k laws Cost e in
-        let at : Right k f start goal (k .beyond) (one-route k f start goal) (one-way k f start goal .rows) = subst (λ (c : C). Right k f start goal c (one-route k f start goal) (one-way k f start goal .rows)) far w in
-        record { optimal = at .optimal; route = λ n. absurd (n refl); beyond = at .beyond; scans = at .scans }
-    right-when false old e =
-        subst (λ (xs : List ℕ). Right k f start goal Cost xs (one-way k f start goal .rows)) (sym (take-append-seam (one-route k f start goal) (drop (length (one-route k f start goal)) old))) w
+    right-when true old e = right-told k f start goal laws w true old e
+    right-when false old e = right-told k f start goal laws w false old e
 
     pub right-of : (a : Answer C) (old new : List ℕ) (rows : List (Row C)) → a ≡ one-answer k f start goal → new ≡ onto (one-nodes k f start goal) old → rows ≡ one-way k f start goal .rows
         → Right k f start goal (cost-of k a) (take (node-count-of a) new) rows

@@ -17,7 +17,7 @@ use Rattle.search.proofs.Treks.{Trek}
 
 module _ {C : Type 0} (k : Kind C) (laws : Laws k) (f : Floor C) (fl : FloorLaws k f) (s t : ℕ) where
   -- what no walk undercuts is at most a least cost
-  under-least : (c x : C) → Least k f s t c → NoneBelow k f s t x → Le k x c
+  pub under-least : (c x : C) → Least k f s t c → NoneBelow k f s t x → Le k x c
   under-least c x l n = elim (l .reached) [ inl e ↦ subst (Le k x) (sym e) (laws .beyond-greatest x) | inr r ↦ subst (Le k x) (r .2) (n (r .0) (r .1)) ]
 
   -- the least cost is beyond exactly when every walk costs beyond

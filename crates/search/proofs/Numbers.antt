@@ -1,4 +1,4 @@
--- Lists of numbers: one without a number, and how many distinct numbers stand in one.
+-- Lists of numbers: what stands in one, one without a number, and how many distinct numbers stand in one.
 use mathlib.Core.Path.{_∙_, _≡_, ap, refl, subst, sym}
 use mathlib.Core.Bool.{Bool, cond, false, true}
 use mathlib.Core.List.{List, [], _∷_}
@@ -7,9 +7,23 @@ use Prim.Native.Nat.{_<_, _≤_, suc, zero, ℕ}
 use native.Mathlib.Omega.{arith}
 use lib.Dec.{eqb}
 use lib.ListN.{length}
-use Rattle.std.proofs.shelf.Tests.{cases-eq, cond-both, eqb-false, eqb-true}
-use Rattle.plant.specs.Closed.{without}
+use Rattle.std.proofs.shelf.Tests.{both-ways, cases-eq, cond-both, eq-eqb, eqb-false, eqb-true}
+use Rattle.plant.specs.Closed.{among, without}
 use Rattle.search.specs.Lists.{Distinct, In}
+
+-- the test tells what stands in the list
+pub among-in : (xs : List ℕ) (n : ℕ) → among xs n ≡ true → In n xs
+among-in [] n h = absurd (both-ways false refl h)
+among-in (x ∷ xs) n h = go (among-in xs n) (eqb x n) refl h
+  where
+    go : (among xs n ≡ true → In n xs) → (t : Bool) → eqb x n ≡ t → cond t true (among xs n) ≡ true → In n (x ∷ xs)
+    go more true e j = inl (sym (eqb-true x n e))
+    go more false e j = inr (more j)
+
+pub in-among : (xs : List ℕ) (n : ℕ) → In n xs → among xs n ≡ true
+in-among [] n h = absurd h
+in-among (x ∷ xs) n (inl e) = ap (λ t. cond t true (among xs n)) (eq-eqb x n (sym e))
+in-among (x ∷ xs) n (inr h) = cond-both (eqb x n) true (among xs n) (λ t. t ≡ true) (λ _. refl) (λ _. in-among xs n h)
 
 pub in-without : (n : ℕ) (xs : List ℕ) (m : ℕ) → In m (without n xs) → In m xs × (m ≡ n → ⊥)
 in-without n [] m h = absurd h

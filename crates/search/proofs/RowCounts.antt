@@ -2,14 +2,17 @@
 use mathlib.Core.Path.{_≡_, refl, ap, _∙_}
 use mathlib.Core.Bool.{Bool, true, false, cond}
 use mathlib.Core.List.{List, _∷_, []}
-use Prim.Native.Nat.{ℕ, zero, suc, _<_, _≤_}
+use Prim.Native.Nat.{ℕ, zero, suc, _+_, _<_, _≤_}
 use native.Mathlib.Omega.{arith}
-use lib.ListN.{length, set}
+use lib.ListN.{length, set, drop}
+use Rattle.std.specs.Runs.{nth}
+use Rattle.std.specs.declared.option.Option.the-variants.{Some}
 use Rattle.std.proofs.shelf.Tests.{cond-both}
 use Rattle.cost.specs.Kind.{Kind}
 use Rattle.search.specs.declared.row.Row.{Row}
 use Rattle.search.specs.Rows.{is-open, is-scanned, blank-rows, row-at}
 use Rattle.search.specs.Steps.{count-scanned}
+use Rattle.search.proofs.OutFacts.{drop-nth}
 
 -- how many rows are open
 abbrev pub count-open : {C : Type 0} → List (Row C) → ℕ
@@ -79,3 +82,7 @@ module _ {C : Type 0} (k : Kind C) where
   count-same [] (y ∷ ys) l h = absurd (omega arith)
   count-same (x ∷ xs) [] l h = absurd (omega arith)
   count-same (x ∷ xs) (y ∷ ys) l h = let r = count-same xs ys (omega arith) (λ v. h (suc v)) in let e = h 0 in ap (λ t. cond t (suc (count-scanned xs)) (count-scanned xs)) e ∙ ap (λ n. cond (is-scanned (y .state)) (suc n) n) r
+
+-- the rows from i on have the count of those after it, and one more where the row of i is scanned
+pub count-drop : {C : Type 0} (rows : List (Row C)) (i : ℕ) (x : Row C) → nth rows i ≡ Some x → count-scanned (drop i rows) ≡ cond (is-scanned (x .state)) (suc (count-scanned (drop (i + 1) rows))) (count-scanned (drop (i + 1) rows))
+count-drop {C} rows i x e = ap (λ (xs : List (Row C)). count-scanned xs) (drop-nth rows i (i + 1) x (omega arith) e)

@@ -28,6 +28,10 @@ AllBeyond k f s t = (is : List ℕ) → Walk f s is t → walk-cost k f is ≡ k
 abbrev pub WorthForward : {C : Type 0} → Kind C → Floor C → ℕ → ℕ → C → ℕ → Type 0
 WorthForward {C} k f s t c v = (d : C) × Least k f s v d × (k .atMost (k .join d (f .bound v t)) c ≡ true)
 
+-- v is worth scanning from the goal: its bound from s, joined with its least cost to t, is at most c
+abbrev pub WorthBackward : {C : Type 0} → Kind C → Floor C → ℕ → ℕ → C → ℕ → Type 0
+WorthBackward {C} k f s t c v = (d : C) × Least k f v t d × (k .atMost (k .join (f .bound s v) d) c ≡ true)
+
 -- the answer c from s to t, with the nodes that are told and the rows that the search leaves
 pub record Right {C : Type 0} (k : Kind C) (f : Floor C) (s t : ℕ) (c : C) (nodes : List ℕ) (rows : List (Row C)) : Type 0 where
   -- no walk costs less
@@ -36,6 +40,11 @@ pub record Right {C : Type 0} (k : Kind C) (f : Floor C) (s t : ℕ) (c : C) (no
   pub beyond : (c ≡ k .beyond) ↔ AllBeyond k f s t
   -- only nodes that are worth it are scanned
   pub scans : (v : ℕ) → row-at k rows v .state ≡ Scanned → WorthForward k f s t c v
+
+-- the same of a search from both ends, with the rows that its two sides leave
+pub record RightBoth {C : Type 0} (k : Kind C) (f : Floor C) (s t : ℕ) (c : C) (nodes : List ℕ) (near far : List (Row C)) : Type 0 where
+  pub right : Right k f s t c nodes near
+  pub scans-back : (v : ℕ) → row-at k far v .state ≡ Scanned → WorthBackward k f s t c v
 
 -- the rows that a survey from s leaves: each label is the least cost from s
 pub record LabelsLeast {C : Type 0} (k : Kind C) (f : Floor C) (s : ℕ) (rows : List (Row C)) : Type 0 where

@@ -2,9 +2,17 @@ pub mod Lists
 pub mod Rows
 pub mod Steps
 pub mod OneWay
+pub mod TwoWay
 pub mod Survey
 pub mod Answer
 pub mod Ties
+pub mod Turns
 pub mod Told
 pub mod Searched
+pub mod SearchedBoth
 pub mod Surveyed
+pub mod Calls
+pub mod Moment
+pub mod Life
+pub mod Served
+pub mod Serving

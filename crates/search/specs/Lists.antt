@@ -3,7 +3,7 @@ use mathlib.Core.Path.{_≡_}
 use mathlib.Core.List.{List, [], _∷_, _++_}
 use mathlib.Core.Logic.{_⊎_}
 use Prim.Native.Nat.{ℕ}
-use lib.ListN.{length, drop}
+use lib.ListN.{length, take, drop}
 
 -- x stands in the list
 abbrev pub In : ℕ → List ℕ → Type 0
@@ -18,3 +18,7 @@ Distinct (x ∷ xs) = (In x xs → ⊥) × Distinct xs
 -- the list `old` with its first entries overwritten by `new`
 abbrev pub onto : {A : Type 0} → List A → List A → List A
 onto new old = new ++ drop (length new) old
+
+-- the list `old` with its entries from `at` on overwritten by `new`
+abbrev pub onto-at : {A : Type 0} → ℕ → List A → List A → List A
+onto-at at new old = take at old ++ onto new (drop at old)

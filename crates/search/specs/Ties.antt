@@ -3,18 +3,20 @@ use mathlib.Core.Path.{_≡_}
 use mathlib.Core.Bool.{true, cond}
 use mathlib.Core.List.{List, [], _∷_}
 use mathlib.Core.Logic.{_⊎_}
-use Prim.Native.Nat.{ℕ, suc, _<_}
+use Prim.Native.Nat.{ℕ, suc, _<_, _≤_, _+_}
+use lib.ListN.{length}
 use Rattle.std.specs.shelf.Lists.{Has}
 use Rattle.cost.specs.Kind.{Kind}
 use Rattle.plant.specs.declared.lane.Lane.{Lane}
 use Rattle.plant.specs.Floor.{Floor}
-use Rattle.queue.specs.Held.{held, Heaped}
+use Rattle.queue.specs.Held.{held, count, room, Heaped}
 use Rattle.queue.specs.declared.heap.Queue.{Queue}
 use Rattle.search.specs.declared.entry.Entry.{Entry}
 use Rattle.search.specs.declared.row.Row.{Row}
+use Rattle.search.specs.declared.row.State.{State}
 use Rattle.search.specs.declared.row.State.the-variants.{Labelled}
 use Rattle.search.specs.Rows.{is-scanned, row-at}
-use Rattle.search.specs.Steps.{ahead-of, key-of}
+use Rattle.search.specs.Steps.{ahead-of, key-of, mark}
 
 abbrev pub entry-of : {C : Type 0} → Kind C → Floor C → ℕ → Row C → ℕ → Entry C
 entry-of k f goal r v = record { key = key-of k f goal r v; label = r .label; node = v }
@@ -53,3 +55,17 @@ NoneLive {C} k rows es = (y : Entry C) → Has es y → Live k rows y → ⊥
 abbrev pub left-of : {C : Type 0} → Kind C → List (Row C) → List (Lane C) → ℕ
 left-of k rows [] = 0
 left-of k rows (l ∷ ls) = cond (is-scanned (row-at k rows (l .tail) .state)) (left-of k rows ls) (suc (left-of k rows ls))
+
+-- a side before its turn: every labelled node waits in the queue, which has room for every lane that may still be followed
+pub record Ready {C : Type 0} (k : Kind C) (f : Floor C) (goal : ℕ) (rows : List (Row C)) (q : Queue (Entry C)) : Type 0 where
+  pub long : length rows ≡ f .nodes
+  pub front : Front k f goal rows q
+  pub fits : count q + left-of k rows (f .lanes) ≤ room q
+
+-- the side once the live entry e was taken out: it is ready but for the state of e's node
+pub record Taken {C : Type 0} (k : Kind C) (f : Floor C) (goal : ℕ) (rows : List (Row C)) (q : Queue (Entry C)) (e : Entry C) : Type 0 where
+  pub long : length rows ≡ f .nodes
+  pub within : e .node < f .nodes
+  pub live : Live k rows e
+  pub front : (s : State) → (s ≡ Labelled → ⊥) → Front k f goal (mark k s rows (e .node)) q
+  pub fits : count q + left-of k rows (f .lanes) ≤ room q

@@ -11,4 +11,5 @@ pub enum SearchFault {
     Queue,
     Route,
     Costs,
+    Replies,
 }

@@ -1,13 +1,25 @@
 // Searches over any plant of any cost kind, in work areas that the caller lends.
 pub mod answer;
+mod begin;
+pub mod call;
+mod calling;
 pub mod entry;
 pub mod entry_rank;
 pub mod fault;
-pub mod follow;
-pub mod live;
+mod follow;
+mod live;
+mod meet;
+pub mod meeting;
 pub mod one_way;
+pub mod reply;
+mod route_both;
 pub mod row;
 pub mod rows;
+mod scanned;
+pub mod serve;
 pub mod survey;
 pub mod told;
-pub mod walk_back;
+mod turn;
+mod two_sides;
+pub mod two_way;
+mod walk_back;

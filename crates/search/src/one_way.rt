@@ -1,9 +1,9 @@
 // The one-way search: A* from the start, step by step until the goal is the next node, or none is left.
 ghost use mathlib.Core.Path.{_≡_};
 ghost use Prim.Native.Nat.{suc, _≤_, _<_, _+_, _^_};
-ghost use lib.ListN.{length, take, drop};
+ghost use lib.ListN.{length, take};
 ghost use Rattle.plant.specs.Floor.{FloorLaws};
-ghost use Rattle.queue.specs.Held.{held, count, room, Heaped};
+ghost use Rattle.queue.specs.Held.{count, room};
 ghost use Rattle.search.specs.Steps.{count-scanned};
 ghost use Rattle.search.specs.OneWay.{one-from, one-way};
 ghost use Rattle.search.specs.Ties.{Front, left-of};
@@ -12,6 +12,7 @@ ghost use Rattle.search.specs.Lists.{onto};
 ghost use Rattle.search.specs.Searched.{fault-of, one-answer, one-nodes, cost-of, node-count-of, Searched};
 ghost use Rattle.std.specs.Results.{Cases, errPart};
 use crate::answer::Answer;
+use crate::begin::begin;
 use crate::entry::Entry;
 use crate::entry_rank::EntryRanked;
 use crate::fault::SearchFault;
@@ -19,7 +20,6 @@ use crate::follow::follow_out;
 use crate::live::next_live;
 use crate::row::Row;
 use crate::row::State;
-use crate::rows::blank_all;
 use crate::rows::mark_as;
 use crate::walk_back::write_route;
 use cost::kind::CostKind;
@@ -27,13 +27,13 @@ use plant::plant::Plant;
 use queue::Queue;
 
 #[derive(Clone, Copy)]
-pub struct Ending<C> {
+pub(crate) struct Ending<C> {
     pub cost: C,
     pub scanned: u32,
 }
 
 // Scans the nodes one after another, until the goal is the next, or none is left.
-pub fn scan_all<P: Plant>(
+fn scan_all<P: Plant>(
     plant: &P,
     goal: u32,
     rows: &mut [Row<P::Cost>],
@@ -90,20 +90,8 @@ pub(crate) fn run<P: Plant>(
     ensures cost { λ r. ⌜ r .cost ≡ one-way (Cost·CostKind .kind) (P·Plant .floor (now (plant .entry))) start goal .cost ⌝ }
     ensures scanned { λ r. ⌜ r .scanned ≡ count-scanned (now (rows .exit)) ⌝ }
 {
-    let zero = P::Cost::zero();
-    blank_all(rows);
-    rows[start as usize] = Row {
-        label: zero,
-        lane: 0,
-        state: State::Labelled,
-    };
     let mut queue = Queue::new(slots);
-    let key = zero.join(plant.bound(start, goal));
-    queue.push(Entry {
-        key,
-        label: zero,
-        node: start,
-    });
+    begin(plant, start, goal, rows, &mut queue);
     scan_all(plant, goal, rows, &mut queue)
 }
 

@@ -1,4 +1,4 @@
-// Blind: every bound zero, so that a search goes by labels alone.
+// Blind: every bound zero, so that nodes go by their labels alone.
 ghost use Rattle.plant.specs.Floor.{blinded};
 use crate::lane::Lane;
 use crate::plant::Plant;

@@ -1,4 +1,4 @@
-// Turned: every lane the other way round, as the back side of a search sees a floor.
+// Turned: every lane the other way round, as who goes back from the goal sees a floor.
 ghost use Rattle.plant.specs.Floor.{turned};
 use crate::lane::Lane;
 use crate::plant::Plant;

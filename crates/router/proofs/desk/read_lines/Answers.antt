@@ -3,7 +3,7 @@ use native.Mathlib.Omega.{arith}
 use lib.ListN.{length, drop, length-drop}
 use Rattle.format.specs.Commands.{behind-feed}
 use Rattle.router.proofs.Feeds.{shorter}
-use Rattle.router.proofs.desk.answer_all.Needs as need
+use Rattle.router.proofs.desk.read_lines.Needs as need
 
 pub loop-at-less : need.loop-at-less
 loop-at-less c =
