@@ -23,7 +23,7 @@ use search::rows::blank_row;
 use std::io;
 
 // Finds a least route over any plant of four nodes and five lanes, and prints it.
-fn route_on<P: Plant<Cost = Length>>(
+pub fn route_on<P: Plant<Cost = Length>>(
     rt: &LibcRuntime,
     plant: &P,
     start: u32,
