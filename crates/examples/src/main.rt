@@ -1,4 +1,6 @@
 // Worked examples: halls searched one way and surveyed, layers piled on a lane plant, and ties.
+#![tactic(auto)]
+
 mod halls;
 mod piles;
 mod ties;

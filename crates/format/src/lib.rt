@@ -1,4 +1,6 @@
 // Plant files and commands: bracket forms, a line each, read without allocation.
+#![tactic(auto)]
+
 ghost use Rattle.format.specs.Stands.{FormatStands};
 
 pub mod command;

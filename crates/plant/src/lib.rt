@@ -1,4 +1,6 @@
 // Plants: what a floor answers and means, layers over any plant, and how a refusal is told.
+#![tactic(auto)]
+
 pub mod lane;
 pub mod layers;
 pub mod lent;

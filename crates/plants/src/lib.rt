@@ -1,4 +1,6 @@
 // Plants: the lane plant over lists of the caller, and the hall over a grid of cells.
+#![tactic(auto)]
+
 pub mod check;
 pub mod fault;
 mod firsts;

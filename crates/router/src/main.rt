@@ -1,4 +1,6 @@
 // The router: reads a plant file and then commands from standard input, and prints a line for each command.
+#![tactic(auto)]
+
 mod areas;
 mod desk;
 mod input;

@@ -1,4 +1,6 @@
 // Searches over any plant of any cost kind, in work areas that the caller lends.
+#![tactic(auto)]
+
 pub mod answer;
 mod begin;
 pub mod call;

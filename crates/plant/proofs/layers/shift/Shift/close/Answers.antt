@@ -7,9 +7,9 @@ pub returns-then-n-ge64 : goal.returns-then-n-ge64
 returns-then-n-ge64 g c =
     let s = c.args.self.now in
     let long : length (closed_list s) ≡ s.count = front_long s.count s.closed (omega (arith, s.full, s.few)) in
-    let lt : c.args.k < length (g.P.Plant.floor s.below).lanes = omega (arith, c.lane-count.ensures, c.if-k-lane-count.false) in
+    let lt : c.args.k < length (g.P.Plant.floor s.below).lanes = omega (arith, c.lane_count.ensures, c.if-k-lane_count.false) in
     record {
-      fault = close_full _ (closed_list s) c.args.k lt (sym c.if-is-closed.ensures) (omega (arith, long, c.if-n-ge64.true));
+      fault = close_full _ (closed_list s) c.args.k lt (sym c.if-is_closed.ensures) (omega (arith, long, c.if-n-ge64.true));
       below = refl;
       closed = refl;
     }
@@ -18,9 +18,9 @@ pub returns : goal.returns
 returns g c =
     let s = c.args.self.now in
     let long : length (closed_list s) ≡ s.count = front_long s.count s.closed (omega (arith, s.full, s.few)) in
-    let lt : c.args.k < length (g.P.Plant.floor s.below).lanes = omega (arith, c.lane-count.ensures, c.if-k-lane-count.false) in
+    let lt : c.args.k < length (g.P.Plant.floor s.below).lanes = omega (arith, c.lane_count.ensures, c.if-k-lane_count.false) in
     record {
-      fault = close_none _ (closed_list s) c.args.k lt (sym c.if-is-closed.ensures) (omega (arith, long, c.if-n-ge64.false));
+      fault = close_none _ (closed_list s) c.args.k lt (sym c.if-is_closed.ensures) (omega (arith, long, c.if-n-ge64.false));
       below = refl;
       closed = one_more s.closed s.count c.args.k (omega (arith, s.full, c.if-n-ge64.false));
     }

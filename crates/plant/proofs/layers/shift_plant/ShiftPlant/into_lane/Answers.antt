@@ -5,4 +5,4 @@ use Rattle.plant.proofs.LayerFacts.{at_from-shut}
 use Rattle.plant.proofs.layers.shift_plant.ShiftPlant.into_lane.Goals as goal
 
 pub returns : goal.returns
-returns g c = c.into-lane.ensures ∙ sym (ap (λ ks. slice_get ks c.args.j) (at_from-shut _ (λ l. l.head) (λ t l. refl) (is_shut c.args.self.now) 0 _ c.args.v))
+returns g c = c.into_lane.ensures ∙ sym (ap (λ ks. slice_get ks c.args.j) (at_from-shut _ (λ l. l.head) (λ t l. refl) (is_shut c.args.self.now) 0 _ c.args.v))

@@ -4,13 +4,13 @@ use Rattle.plant.specs.Shifted.{is_shut}
 use Rattle.plant.proofs.LayerFacts.{nth-shut, over, shut_there, open_there}
 use Rattle.plant.proofs.layers.shift_plant.ShiftPlant.lane.Goals as goal
 
-pub returns-then-is-closed : goal.returns-then-is-closed
-returns-then-is-closed g c =
-    shut_there g.P.Cost.CostKind.kind.beyond (is_shut c.args.self.now) (g.P.Plant.floor c.args.self.now.below).lanes c.args.k c.in-Some.l c.beyond.result c.in-Some.ensures c.if-is-closed.ensures c.beyond.ensures
+pub returns-then-is_closed : goal.returns-then-is_closed
+returns-then-is_closed g c =
+    shut_there g.P.Cost.CostKind.kind.beyond (is_shut c.args.self.now) (g.P.Plant.floor c.args.self.now.below).lanes c.args.k c.in-Some.l c.beyond.result c.in-Some.ensures c.if-is_closed.ensures c.beyond.ensures
 
-pub returns-else-is-closed : goal.returns-else-is-closed
-returns-else-is-closed g c =
-    open_there g.P.Cost.CostKind.kind.beyond (is_shut c.args.self.now) (g.P.Plant.floor c.args.self.now.below).lanes c.args.k c.in-Some.l c.in-Some.ensures c.if-is-closed.ensures
+pub returns-else-is_closed : goal.returns-else-is_closed
+returns-else-is_closed g c =
+    open_there g.P.Cost.CostKind.kind.beyond (is_shut c.args.self.now) (g.P.Plant.floor c.args.self.now.below).lanes c.args.k c.in-Some.l c.in-Some.ensures c.if-is_closed.ensures
 
 pub returns-in-None : goal.returns-in-None
 returns-in-None g c =

@@ -5,4 +5,4 @@ use Rattle.plant.proofs.LayerFacts.{at_from-shut}
 use Rattle.plant.proofs.layers.shift_plant.ShiftPlant.out_lane.Goals as goal
 
 pub returns : goal.returns
-returns g c = c.out-lane.ensures ∙ sym (ap (λ ks. slice_get ks c.args.j) (at_from-shut _ (λ l. l.tail) (λ t l. refl) (is_shut c.args.self.now) 0 _ c.args.v))
+returns g c = c.out_lane.ensures ∙ sym (ap (λ ks. slice_get ks c.args.j) (at_from-shut _ (λ l. l.tail) (λ t l. refl) (is_shut c.args.self.now) 0 _ c.args.v))

@@ -5,4 +5,4 @@ use Rattle.plant.proofs.LayerFacts.{at_from-map}
 use Rattle.plant.proofs.layers.turned.TurnedPlant.into_lane.Goals as goal
 
 pub returns : goal.returns
-returns g c = c.out-lane.ensures ∙ sym (ap (λ ks. slice_get ks c.args.j) (at_from-map (λ l. l.head) turn 0 _ c.args.v))
+returns g c = c.out_lane.ensures ∙ sym (ap (λ ks. slice_get ks c.args.j) (at_from-map (λ l. l.head) turn 0 _ c.args.v))

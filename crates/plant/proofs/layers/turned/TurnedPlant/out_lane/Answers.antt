@@ -5,4 +5,4 @@ use Rattle.plant.proofs.LayerFacts.{at_from-map}
 use Rattle.plant.proofs.layers.turned.TurnedPlant.out_lane.Goals as goal
 
 pub returns : goal.returns
-returns g c = c.into-lane.ensures ∙ sym (ap (λ ks. slice_get ks c.args.j) (at_from-map (λ l. l.tail) turn 0 _ c.args.v))
+returns g c = c.into_lane.ensures ∙ sym (ap (λ ks. slice_get ks c.args.j) (at_from-map (λ l. l.tail) turn 0 _ c.args.v))
