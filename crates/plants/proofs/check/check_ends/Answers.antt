@@ -5,10 +5,10 @@ use Rattle.plants.specs.Faults.{ends_fit}
 use Rattle.plants.proofs.FirstFailing.{walk_on, walk_stops}
 use Rattle.plants.proofs.check.check_ends.Goals as goal
 
-pub returns-then-not-fits-ends : goal.returns-then-not-fits-ends
-returns-then-not-fits-ends c =
-    walk_stops (ends_fit c.args.nodes c.args.tails.now c.args.heads.now) c.loop-k.k (length c.args.tails.now) (λ k. Ends k) c.loop-k-test.true (sym c.fits_ends.ensures ∙ c.if-not-fits-ends.true) c.loop-k.invariant
+pub returns-then-not-fits_ends : goal.returns-then-not-fits_ends
+returns-then-not-fits_ends c =
+    walk_stops (ends_fit c.args.nodes c.args.tails.now c.args.heads.now) c.loop-k.k (length c.args.tails.now) (λ k. Ends k) c.loop-k-test.true (sym c.fits_ends.ensures ∙ c.if-not-fits_ends.true) c.loop-k.invariant
 
 pub loop-k-preserved : goal.loop-k-preserved
 loop-k-preserved c =
-    walk_on (ends_fit c.args.nodes c.args.tails.now c.args.heads.now) c.loop-k.k (length c.args.tails.now) c.loop-k-test.true (sym c.fits_ends.ensures ∙ c.if-not-fits-ends.false) c.loop-k.invariant
+    walk_on (ends_fit c.args.nodes c.args.tails.now c.args.heads.now) c.loop-k.k (length c.args.tails.now) c.loop-k-test.true (sym c.fits_ends.ensures ∙ c.if-not-fits_ends.false) c.loop-k.invariant

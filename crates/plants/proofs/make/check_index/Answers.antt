@@ -4,9 +4,9 @@ use Rattle.plants.specs.Index.{firsts}
 use Rattle.plants.proofs.Same.{same_true}
 use Rattle.plants.proofs.make.check_index.Goals as goal
 
-pub fits-groups-requires : goal.fits-groups-requires
-fits-groups-requires c = record {
-  counted = same_true c.args.lists.first_in.now (firsts c.args.nodes c.args.lists.heads.now) (sym c.if-not-fits-firsts-2.ensures);
+pub fits_groups-requires : goal.fits_groups-requires
+fits_groups-requires c = record {
+  counted = same_true c.args.lists.first_in.now (firsts c.args.nodes c.args.lists.heads.now) (sym c.if-not-fits_firsts-2.ensures);
   small = c.requires.small;
   few = omega (arith, c.requires.heads, c.requires.few);
   within = c.requires.heads_within;

@@ -13,8 +13,8 @@ use Rattle.search.proofs.StartFacts.{first_row, start_tied}
 use Rattle.search.proofs.TieFacts.{left_le}
 use Rattle.search.proofs.begin.begin.Goals as goal
 
-pub offset-bounds-rows-start : goal.offset-bounds-rows-start
-offset-bounds-rows-start g c =
+pub offset_bounds-rows-start : goal.offset_bounds-rows-start
+offset_bounds-rows-start g c =
     let h : c.args.start < length c.args.rows.now = omega (arith, c.requires.start, c.requires.rows) in
     search rules
 
@@ -29,8 +29,8 @@ returns g c =
     let q' = c.push.new.self in
     let p = c.push.ensures in
     let z = c.zero-zero.ensures in
-    let blank : c.blank-all.new.rows ≡ blank_rows k f.nodes = c.blank-all.ensures ∙ ap (blank_rows k) c.requires.rows in
-    let begins : set c.blank-all.new.rows start (record { label = c.zero-zero.result; lane = 0; state = Labelled }) ≡ start_rows k f start =
+    let blank : c.blank_all.new.rows ≡ blank_rows k f.nodes = c.blank_all.ensures ∙ ap (blank_rows k) c.requires.rows in
+    let begins : set c.blank_all.new.rows start (record { label = c.zero-zero.result; lane = 0; state = Labelled }) ≡ start_rows k f start =
     λ i. set (blank i) start (record { label = z i; lane = 0; state = Labelled }) in
     let free : count q < room q = omega (arith, c.requires.empty, c.requires.room) in
     let more : count q' ≡ count q + 1 = took _ _ _ _ _ p.test free p.count in

@@ -22,7 +22,7 @@ returns-in-Ok g c =
     let rows = c.args.rows.now in
     let back = c.args.back_rows.now in
     let routes = c.args.routes.now in
-    let a = areas (length rows) (length c.args.queue.now) (length back) (length c.args.back-queue.now) (length routes) in
+    let a = areas (length rows) (length c.args.queue.now) (length back) (length c.args.back_queue.now) (length routes) in
     let P : Call → Type 0 = λ x. Makes (made g.Cost.CostKind.kind f a closed c.args.at x) c.args.at (Closed c.in-Close.k) rows rows back back routes routes in
     record {
       makes = subst P (sym c.in-Close.is) (shift_accepts c.args.at rows rows back back routes c.requires (close_fault (length f.lanes) closed c.in-Close.k) (Closed c.in-Close.k) c.in-Ok.ensures.fault);
@@ -37,7 +37,7 @@ returns-in-Err g c =
     let rows = c.args.rows.now in
     let back = c.args.back_rows.now in
     let routes = c.args.routes.now in
-    let a = areas (length rows) (length c.args.queue.now) (length back) (length c.args.back-queue.now) (length routes) in
+    let a = areas (length rows) (length c.args.queue.now) (length back) (length c.args.back_queue.now) (length routes) in
     let P : Call → Type 0 = λ x. Makes (made g.Cost.CostKind.kind f a closed c.args.at x) c.args.at (Refused (Shift c.in-Err.x)) rows rows back back routes routes in
     record {
       makes = subst P (sym c.in-Close.is) (shift_refuses c.args.at rows rows back back routes c.requires (close_fault (length f.lanes) closed c.in-Close.k) (Closed c.in-Close.k) c.in-Err.x c.in-Err.ensures.fault);
@@ -52,7 +52,7 @@ returns-in-Ok-reopen g c =
     let rows = c.args.rows.now in
     let back = c.args.back_rows.now in
     let routes = c.args.routes.now in
-    let a = areas (length rows) (length c.args.queue.now) (length back) (length c.args.back-queue.now) (length routes) in
+    let a = areas (length rows) (length c.args.queue.now) (length back) (length c.args.back_queue.now) (length routes) in
     let P : Call → Type 0 = λ x. Makes (made g.Cost.CostKind.kind f a closed c.args.at x) c.args.at (Reopened c.in-Reopen.k) rows rows back back routes routes in
     record {
       makes = subst P (sym c.in-Reopen.is) (shift_accepts c.args.at rows rows back back routes c.requires (reopen_fault (length f.lanes) closed c.in-Reopen.k) (Reopened c.in-Reopen.k) c.in-Ok-reopen.ensures.fault);
@@ -67,7 +67,7 @@ returns-in-Err-reopen g c =
     let rows = c.args.rows.now in
     let back = c.args.back_rows.now in
     let routes = c.args.routes.now in
-    let a = areas (length rows) (length c.args.queue.now) (length back) (length c.args.back-queue.now) (length routes) in
+    let a = areas (length rows) (length c.args.queue.now) (length back) (length c.args.back_queue.now) (length routes) in
     let P : Call → Type 0 = λ x. Makes (made g.Cost.CostKind.kind f a closed c.args.at x) c.args.at (Refused (Shift c.in-Err-reopen.x)) rows rows back back routes routes in
     record {
       makes = subst P (sym c.in-Reopen.is) (shift_refuses c.args.at rows rows back back routes c.requires (reopen_fault (length f.lanes) closed c.in-Reopen.k) (Reopened c.in-Reopen.k) c.in-Err-reopen.x c.in-Err-reopen.ensures.fault);
@@ -87,9 +87,9 @@ returns-in-One g c =
     let rows = c.args.rows.now in
     let back = c.args.back_rows.now in
     let routes = c.args.routes.now in
-    let a = areas (length rows) (length c.args.queue.now) (length back) (length c.args.back-queue.now) (length routes) in
-    let m = c.call-one.ensures in
-    let P : Call → Type 0 = λ x. Makes (made k f a closed at x) at c.call-one.result rows c.call-one.new.rows back back routes c.call-one.new.routes in
+    let a = areas (length rows) (length c.args.queue.now) (length back) (length c.args.back_queue.now) (length routes) in
+    let m = c.call_one.ensures in
+    let P : Call → Type 0 = λ x. Makes (made k f a closed at x) at c.call_one.result rows c.call_one.new.rows back back routes c.call_one.new.routes in
     record {
       makes = subst P (sym c.in-One.is) (record { reply_is = m.reply_is; rows_are = m.rows_are; back_are = ap (λ (xs : List (Row g.row.P-Cost.Denot)). onto xs back) (sym (one_far k f a closed at s t)); routes_are = m.routes_are; fits = m.fits });
       closed = sym (ap (closed_after closed) m.reply_is ∙ search_keeps k F at (One s t) (one_way k F s t).cost (one_route k F s t) closed (search_fault f s t (too_short f a (length routes - at) (One s t))));
@@ -108,9 +108,9 @@ returns-in-Two g c =
     let rows = c.args.rows.now in
     let back = c.args.back_rows.now in
     let routes = c.args.routes.now in
-    let a = areas (length rows) (length c.args.queue.now) (length back) (length c.args.back-queue.now) (length routes) in
-    let m = c.call-two.ensures in
-    let P : Call → Type 0 = λ x. Makes (made k f a closed at x) at c.call-two.result rows c.call-two.new.rows back c.call-two.new.back_rows routes c.call-two.new.routes in
+    let a = areas (length rows) (length c.args.queue.now) (length back) (length c.args.back_queue.now) (length routes) in
+    let m = c.call_two.ensures in
+    let P : Call → Type 0 = λ x. Makes (made k f a closed at x) at c.call_two.result rows c.call_two.new.rows back c.call_two.new.back_rows routes c.call_two.new.routes in
     record {
       makes = subst P (sym c.in-Two.is) m;
       closed = sym (ap (closed_after closed) m.reply_is ∙ search_keeps k F at (Two s t) (two_way k F s t).met.cost (two_route k F s t) closed (search_fault f s t (too_short f a (length routes - at) (Two s t))));

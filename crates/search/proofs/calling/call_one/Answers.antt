@@ -21,17 +21,17 @@ returns-in-Ok g c =
     let t = c.args.goal in
     let at = c.args.at in
     let rows = c.args.rows.now in
-    let rows' = c.one-way.new.rows in
+    let rows' = c.one_way.new.rows in
     let routes = c.args.routes.now in
-    let part = c.one-way.new.route in
+    let part = c.one_way.new.route in
     let a = areas (length rows) (length c.args.queue.now) 0 0 (length routes) in
     let told = c.in-Ok.ensures in
     let left : length (take (length routes - at) (drop at routes)) ≡ length routes - at = ap length (between_to_end routes at (length routes) (omega arith)) ∙ length-drop at routes in
     let fault = told.fault ∙ one_fault k f closed s t a (length routes - at) _ left in
     let enough : f.nodes ≤ length rows = enough_rows f s t (length rows) _ fault in
-    let near = written f.nodes rows' rows (one_way k F s t).rows (omega (arith, enough, c.one-way.auto.rows)) told.searched.rows_are told.searched.rows_past in
+    let near = written f.nodes rows' rows (one_way k F s t).rows (omega (arith, enough, c.one_way.auto.rows)) told.searched.rows_are told.searched.rows_past in
     search_accepts at rows rows' [] [] routes c.requires (search_fault f s t (too_short f a (length routes - at) (One s t))) (answer k F at (One s t) (one_way k F s t).cost (one_route k F s t)) part
-    c.tell-one.result fault (c.tell-one.ensures ∙ ap (one_told at) told.searched.answer_is ∙ one_replied k f closed s t at) near.1 refl told.searched.route_is c.one-way.auto.route
+    c.tell_one.result fault (c.tell_one.ensures ∙ ap (one_told at) told.searched.answer_is ∙ one_replied k f closed s t at) near.1 refl told.searched.route_is c.one_way.auto.route
 
 pub returns-in-Err : goal.returns-in-Err
 returns-in-Err g c =
@@ -48,5 +48,5 @@ returns-in-Err g c =
     let told = c.in-Err.ensures in
     let left : length (take (length routes - at) (drop at routes)) ≡ length routes - at = ap length (between_to_end routes at (length routes) (omega arith)) ∙ length-drop at routes in
     let fault = told.fault ∙ one_fault k f closed s t a (length routes - at) _ left in
-    search_refuses at rows c.one-way.new.rows [] [] routes c.requires (search_fault f s t (too_short f a (length routes - at) (One s t))) (answer k F at (One s t) (one_way k F s t).cost (one_route k F s t)) c.one-way.new.route
+    search_refuses at rows c.one_way.new.rows [] [] routes c.requires (search_fault f s t (too_short f a (length routes - at) (One s t))) (answer k F at (One s t) (one_way k F s t).cost (one_route k F s t)) c.one_way.new.route
     c.in-Err.x fault told.searched.0 refl told.searched.2

@@ -26,7 +26,7 @@ returns-in-Ok g c =
     let back' = c.two_way.new.back in
     let routes = c.args.routes.now in
     let part = c.two_way.new.route in
-    let a = areas (length rows) (length c.args.queue.now) (length back) (length c.args.back-queue.now) (length routes) in
+    let a = areas (length rows) (length c.args.queue.now) (length back) (length c.args.back_queue.now) (length routes) in
     let told = c.in-Ok.ensures in
     let left : length (take (length routes - at) (drop at routes)) ≡ length routes - at = ap length (between_to_end routes at (length routes) (omega arith)) ∙ length-drop at routes in
     let fault = told.fault ∙ two_fault_is k f closed s t a (length routes - at) _ left in
@@ -35,7 +35,7 @@ returns-in-Ok g c =
     let near = written f.nodes rows' rows (two_way k F s t).near.rows (omega (arith, enough, c.two_way.auto.rows)) told.searched.rows_are told.searched.rows_past in
     let far = written f.nodes back' back (two_way k F s t).far.rows (omega (arith, enough', c.two_way.auto.back)) told.searched.back_are told.searched.back_past in
     search_accepts at rows rows' back back' routes c.requires (search_fault f s t (too_short f a (length routes - at) (Two s t))) (answer k F at (Two s t) (two_way k F s t).met.cost (two_route k F s t)) part
-    c.tell-two.result fault (c.tell-two.ensures ∙ ap (two_told at) told.searched.answer_is ∙ two_replied k f closed s t at) near.1 far.1 told.searched.route_is c.two_way.auto.route
+    c.tell_two.result fault (c.tell_two.ensures ∙ ap (two_told at) told.searched.answer_is ∙ two_replied k f closed s t at) near.1 far.1 told.searched.route_is c.two_way.auto.route
 
 pub returns-in-Err : goal.returns-in-Err
 returns-in-Err g c =
@@ -49,7 +49,7 @@ returns-in-Err g c =
     let rows = c.args.rows.now in
     let back = c.args.back_rows.now in
     let routes = c.args.routes.now in
-    let a = areas (length rows) (length c.args.queue.now) (length back) (length c.args.back-queue.now) (length routes) in
+    let a = areas (length rows) (length c.args.queue.now) (length back) (length c.args.back_queue.now) (length routes) in
     let told = c.in-Err.ensures in
     let left : length (take (length routes - at) (drop at routes)) ≡ length routes - at = ap length (between_to_end routes at (length routes) (omega arith)) ∙ length-drop at routes in
     let fault = told.fault ∙ two_fault_is k f closed s t a (length routes - at) _ left in

@@ -14,8 +14,8 @@ note-requires g c = record {
   room = c.requires.room;
 }
 
-pub offset-bounds-others-l : goal.offset-bounds-others-l
-offset-bounds-others-l g c =
+pub offset_bounds-others-l : goal.offset_bounds-others-l
+offset_bounds-others-l g c =
     let h : c.in-Some.l.head < length c.args.others.now = omega (arith, c.requires.others, c.requires.laws.head_node c.args.k c.in-Some.l (sym c.in-Some.ensures)) in
     search rules
 
@@ -31,10 +31,10 @@ returns-then-note g c =
     let inside : l.head < f.nodes = c.requires.laws.head_node c.args.k l there in
     let told = c.note.ensures in
     let row : row_at k c.args.others.now l.head ≡ c.index-others-l.result = row_read k c.args.others.now l.head c.index-others-l.result (omega (arith, c.requires.others, inside)) c.index-others-l.is in
-    let best : c.best-of.result ≡ meet k (k.join c.join-label.result (row_at k c.args.others.now l.head).label) l.head c.args.met =
-    c.best-of.ensures ∙ ap (λ (x : g.row.P-Cost.Denot). meet k x l.head c.args.met) (c.join.ensures ∙ ap (λ (r : Row g.row.P-Cost.Denot). k.join c.join-label.result r.label) (sym row)) in
+    let best : c.best_of.result ≡ meet k (k.join c.join-label.result (row_at k c.args.others.now l.head).label) l.head c.args.met =
+    c.best_of.ensures ∙ ap (λ (x : g.row.P-Cost.Denot). meet k x l.head c.args.met) (c.join.ensures ∙ ap (λ (r : Row g.row.P-Cost.Denot). k.join c.join-label.result r.label) (sym row)) in
     record {
-      spread = met_here k f c.args.others.now c.args.from c.args.rows.now c.note.new.rows c.args.k l there c.args.met c.join-label.result c.join-label.ensures told.rows c.best-of.result (sym told.test ∙ c.if-note.true) best;
+      spread = met_here k f c.args.others.now c.args.from c.args.rows.now c.note.new.rows c.args.k l there c.args.met c.join-label.result c.join-label.ensures told.rows c.best_of.result (sym told.test ∙ c.if-note.true) best;
       met = subst (λ m. m.node < f.nodes) (sym best) (meet_within k (k.join c.join-label.result (row_at k c.args.others.now l.head).label) l.head f.nodes c.args.met inside c.requires.met);
       front = told.front;
       count = told.count;

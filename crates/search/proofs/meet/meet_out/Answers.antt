@@ -7,8 +7,8 @@ use Rattle.search.proofs.Outs.{out_of_le}
 use Rattle.search.proofs.RowFacts.{nth_within}
 use Rattle.search.proofs.meet.meet_out.Goals as goal
 
-pub meet-lane-met-requires : goal.meet-lane-met-requires
-meet-lane-met-requires g c =
+pub meet_lane-met-requires : goal.meet_lane-met-requires
+meet_lane-met-requires g c =
     let f = g.P.Plant.floor c.args.plant.now in
     let is = out_of f c.args.node in
     let l = c.loop-j in
@@ -28,11 +28,11 @@ loop-j-preserved g c =
     let f = g.P.Plant.floor c.args.plant.now in
     let is = out_of f c.args.node in
     let l = c.loop-j in
-    let told = c.meet-lane-met.ensures in
+    let told = c.meet_lane-met.ensures in
     let e = sym c.in-Some.ensures in
     let h : l.j < length is = nth_within is l.j c.in-Some.k e in (
       omega arith,
-      meet_more k f c.args.others.now c.args.from (spread l.rows l.met) (spread c.meet-lane-met.new.rows c.meet-lane-met.result) (spread c.args.rows.now c.args.met) is l.j c.in-Some.k e told.spread l.invariant.1,
+      meet_more k f c.args.others.now c.args.from (spread l.rows l.met) (spread c.meet_lane-met.new.rows c.meet_lane-met.result) (spread c.args.rows.now c.args.met) is l.j c.in-Some.k e told.spread l.invariant.1,
       told.front,
       omega (arith, told.count, l.invariant.3),
       told.room ∙ l.invariant.4,
@@ -60,7 +60,7 @@ returns g c =
     let f = g.P.Plant.floor c.args.plant.now in
     let is = out_of f c.args.node in
     let l = c.loop-j in
-    let h : length is ≤ l.j = omega (arith, out_of_le f c.args.node, c.lane-count-j-end.ensures, c.loop-j-test.false) in
+    let h : length is ≤ l.j = omega (arith, out_of_le f c.args.node, c.lane_count-j-end.ensures, c.loop-j-test.false) in
     record {
       spread = meet_done k f c.args.others.now c.args.from (spread l.rows l.met) (spread c.args.rows.now c.args.met) is l.j h l.invariant.1;
       met = l.invariant.5;

@@ -7,8 +7,8 @@ use Rattle.search.specs.Steps.{trace}
 use Rattle.search.proofs.JoinFacts.{before, trace_last, trace_back, joined_parts, joined_length, first_count, both_written}
 use Rattle.search.proofs.route_both.write_both.Goals as goal
 
-pub overflow-sub-from : goal.overflow-sub-from
-overflow-sub-from g c =
+pub overflow_sub-from : goal.overflow_sub-from
+overflow_sub-from g c =
     let k = g.Cost.CostKind.kind in
     let f = g.P.Plant.floor c.args.plant.now in
     let start = c.args.start in
@@ -17,17 +17,17 @@ overflow-sub-from g c =
     let rows = c.args.rows.now in
     let back = c.args.back.now in
     let some = c.requires.laws.some_node in
-    let n = c.write-route-from.result in
-    let xs = c.write-route-from.new.route in
-    let told = c.write-route-from.ensures in
+    let n = c.write_route-from.result in
+    let xs = c.write_route-from.new.route in
+    let told = c.write_route-from.ensures in
     let front = before k f start rows f.nodes via some in
-    let h : n ≤ length xs = omega (arith, told.count, c.write-route-from.auto.route, c.requires.route, c.requires.rows) in
+    let h : n ≤ length xs = omega (arith, told.count, c.write_route-from.auto.route, c.requires.route, c.requires.rows) in
     let e = told.wrote ∙ trace_last k f start rows f.nodes via some [] in
     let count : n ≡ length front + 1 = first_count n 0 xs [] [] front [] via h e in
     omega (arith, count)
 
-pub walk-back-more-requires : goal.walk-back-more-requires
-walk-back-more-requires g c =
+pub walk_back-more-requires : goal.walk_back-more-requires
+walk_back-more-requires g c =
     let k = g.Cost.CostKind.kind in
     let f = g.P.Plant.floor c.args.plant.now in
     let start = c.args.start in
@@ -36,16 +36,16 @@ walk-back-more-requires g c =
     let rows = c.args.rows.now in
     let back = c.args.back.now in
     let some = c.requires.laws.some_node in
-    let n = c.write-route-from.result in
-    let xs = c.write-route-from.new.route in
-    let told = c.write-route-from.ensures in
+    let n = c.write_route-from.result in
+    let xs = c.write_route-from.new.route in
+    let told = c.write_route-from.ensures in
     let front = before k f start rows f.nodes via some in
-    let h : n ≤ length xs = omega (arith, told.count, c.write-route-from.auto.route, c.requires.route, c.requires.rows) in
+    let h : n ≤ length xs = omega (arith, told.count, c.write_route-from.auto.route, c.requires.route, c.requires.rows) in
     let e = told.wrote ∙ trace_last k f start rows f.nodes via some [] in
     let count : n ≡ length front + 1 = first_count n 0 xs [] [] front [] via h e in
     let whole = joined_length k f start goal rows back via some in
     let part : length (take (length xs - (n - 1)) (drop (n - 1) xs)) ≡ length xs - (n - 1) = length-take-le (length xs - (n - 1)) (drop (n - 1) xs) (omega (arith, length-drop (n - 1) xs)) in
-    record { laws = turned_laws g.met.Cost.CostKind.lawful c.requires.laws; rows = c.requires.back; goal = c.requires.via; route = omega (arith, part, whole, count, c.requires.short, c.requires.route, c.write-route-from.auto.route) }
+    record { laws = turned_laws g.met.Cost.CostKind.lawful c.requires.laws; rows = c.requires.back; goal = c.requires.via; route = omega (arith, part, whole, count, c.requires.short, c.requires.route, c.write_route-from.auto.route) }
 
 pub returns : goal.returns
 returns g c =
@@ -57,19 +57,19 @@ returns g c =
     let rows = c.args.rows.now in
     let back = c.args.back.now in
     let some = c.requires.laws.some_node in
-    let n = c.write-route-from.result in
-    let xs = c.write-route-from.new.route in
-    let told = c.write-route-from.ensures in
+    let n = c.write_route-from.result in
+    let xs = c.write_route-from.new.route in
+    let told = c.write_route-from.ensures in
     let front = before k f start rows f.nodes via some in
-    let h : n ≤ length xs = omega (arith, told.count, c.write-route-from.auto.route, c.requires.route, c.requires.rows) in
+    let h : n ≤ length xs = omega (arith, told.count, c.write_route-from.auto.route, c.requires.route, c.requires.rows) in
     let e = told.wrote ∙ trace_last k f start rows f.nodes via some [] in
     let count : n ≡ length front + 1 = first_count n 0 xs [] [] front [] via h e in
     let second = trace k (turned f) goal back f.nodes via [] in
-    let ys = c.walk-back-more.new.route in
-    let more = c.walk-back-more.result in
-    let wrote = c.walk-back-more.ensures in
+    let ys = c.walk_back-more.new.route in
+    let more = c.walk_back-more.result in
+    let wrote = c.walk_back-more.ensures in
     let part : length (take (length xs - (n - 1)) (drop (n - 1) xs)) ≡ length xs - (n - 1) = length-take-le (length xs - (n - 1)) (drop (n - 1) xs) (omega (arith, length-drop (n - 1) xs)) in
-    let long : length ys ≡ length xs - (n - 1) = c.walk-back-more.auto.route ∙ part in
+    let long : length ys ≡ length xs - (n - 1) = c.walk_back-more.auto.route ∙ part in
     let fits : more ≤ length ys = omega (arith, wrote.fits, part, long) in
     let last = ap length (trace_back k (turned f) goal back f.nodes via some) in
     let counted : length second ≡ more = ap length (sym wrote.wrote) ∙ length-reverse (take more ys) ∙ length-take-le more ys fits in

@@ -11,25 +11,25 @@ use Rattle.search.proofs.serve.call_all.Goals as goal
 pub loop-i-init : goal.loop-i-init
 loop-i-init g c = (serving_none, refl)
 
-pub call-on-reply-requires : goal.call-on-reply-requires
-call-on-reply-requires g c = c.loop-i.invariant.0.fits
+pub call_on-reply-requires : goal.call_on-reply-requires
+call_on-reply-requires g c = c.loop-i.invariant.0.fits
 
-pub put-reply-requires : goal.put-reply-requires
-put-reply-requires g c = omega (arith, c.requires, c.loop-i-test.true, c.loop-i.auto.replies)
+pub put_reply-requires : goal.put_reply-requires
+put_reply-requires g c = omega (arith, c.requires, c.loop-i-test.true, c.loop-i.auto.replies)
 
-pub overflow-add-at : goal.overflow-add-at
-overflow-add-at g c =
+pub overflow_add-at : goal.overflow_add-at
+overflow_add-at g c =
     let k = g.Cost.CostKind.kind in
     let f = g.P.Plant.floor c.args.shift.now.below in
     let l = c.loop-i in
     let calls = c.args.calls.now in
-    let a = areas (length c.args.rows.now) (length c.args.queue.now) (length c.args.back_rows.now) (length c.args.back-queue.now) (length c.args.routes.now) in
+    let a = areas (length c.args.rows.now) (length c.args.queue.now) (length c.args.back_rows.now) (length c.args.back_queue.now) (length c.args.routes.now) in
     let closed = closed_list l.shift in
     let call = get_or calls l.i (Close 0) in
     let floor-is : g.P.Plant.floor l.shift.below ≡ f = ap g.P.Plant.floor l.invariant.1 in
-    let areas-are : areas (length l.rows) (length l.queue) (length l.back_rows) (length l.back-queue) (length l.routes) ≡ a = λ j. areas (l.auto.rows j) (l.auto.queue j) (l.auto.back_rows j) (l.auto.back-queue j) (l.auto.routes j) in
-    let m = made-same k closed l.at call floor-is areas-are c.call-on-reply.ensures.makes in
-    let h : l.at + c.nodes-of-at.result ≤ length l.routes = serving_fits l.invariant.0 call (drop_more calls l.i (Close 0) c.loop-i-test.true) m c.call-on-reply.ensures.closed c.nodes-of-at.ensures in
+    let areas-are : areas (length l.rows) (length l.queue) (length l.back_rows) (length l.back_queue) (length l.routes) ≡ a = λ j. areas (l.auto.rows j) (l.auto.queue j) (l.auto.back_rows j) (l.auto.back_queue j) (l.auto.routes j) in
+    let m = made-same k closed l.at call floor-is areas-are c.call_on-reply.ensures.makes in
+    let h : l.at + c.nodes_of-at.result ≤ length l.routes = serving_fits l.invariant.0 call (drop_more calls l.i (Close 0) c.loop-i-test.true) m c.call_on-reply.ensures.closed c.nodes_of-at.ensures in
     search rules
 
 pub loop-i-preserved : goal.loop-i-preserved
@@ -38,17 +38,17 @@ loop-i-preserved g c =
     let f = g.P.Plant.floor c.args.shift.now.below in
     let l = c.loop-i in
     let calls = c.args.calls.now in
-    let a = areas (length c.args.rows.now) (length c.args.queue.now) (length c.args.back_rows.now) (length c.args.back-queue.now) (length c.args.routes.now) in
+    let a = areas (length c.args.rows.now) (length c.args.queue.now) (length c.args.back_rows.now) (length c.args.back_queue.now) (length c.args.routes.now) in
     let closed = closed_list l.shift in
     let call = get_or calls l.i (Close 0) in
     let floor-is : g.P.Plant.floor l.shift.below ≡ f = ap g.P.Plant.floor l.invariant.1 in
-    let areas-are : areas (length l.rows) (length l.queue) (length l.back_rows) (length l.back-queue) (length l.routes) ≡ a = λ j. areas (l.auto.rows j) (l.auto.queue j) (l.auto.back_rows j) (l.auto.back-queue j) (l.auto.routes j) in
-    let m = made-same k closed l.at call floor-is areas-are c.call-on-reply.ensures.makes in
+    let areas-are : areas (length l.rows) (length l.queue) (length l.back_rows) (length l.back_queue) (length l.routes) ≡ a = λ j. areas (l.auto.rows j) (l.auto.queue j) (l.auto.back_rows j) (l.auto.back_queue j) (l.auto.routes j) in
+    let m = made-same k closed l.at call floor-is areas-are c.call_on-reply.ensures.makes in
     let lt : l.i < length l.replies = omega (arith, c.requires, c.loop-i-test.true, l.auto.replies) in
-    let more = serving_more l.invariant.0 call (drop_more calls l.i (Close 0) c.loop-i-test.true) m c.call-on-reply.ensures.closed c.nodes-of-at.ensures lt c.call-on-reply.auto.routes in
-    let put : set l.replies l.i c.call-on-reply.result ≡ c.put-reply.new.replies = sym c.put-reply.ensures in
-    let P : List (Reply g.row.P-Cost.Denot) → Type 0 = λ xs. Serving k f a calls (closed_list c.args.shift.now) c.args.replies.now c.args.routes.now c.args.rows.now c.args.back_rows.now (l.i + 1) (l.at + c.nodes-of-at.result) (closed_list c.call-on-reply.new.shift) xs c.call-on-reply.new.routes c.call-on-reply.new.rows c.call-on-reply.new.back_rows in
-    (subst P put more, c.call-on-reply.ensures.below ∙ l.invariant.1)
+    let more = serving_more l.invariant.0 call (drop_more calls l.i (Close 0) c.loop-i-test.true) m c.call_on-reply.ensures.closed c.nodes_of-at.ensures lt c.call_on-reply.auto.routes in
+    let put : set l.replies l.i c.call_on-reply.result ≡ c.put_reply.new.replies = sym c.put_reply.ensures in
+    let P : List (Reply g.row.P-Cost.Denot) → Type 0 = λ xs. Serving k f a calls (closed_list c.args.shift.now) c.args.replies.now c.args.routes.now c.args.rows.now c.args.back_rows.now (l.i + 1) (l.at + c.nodes_of-at.result) (closed_list c.call_on-reply.new.shift) xs c.call_on-reply.new.routes c.call_on-reply.new.rows c.call_on-reply.new.back_rows in
+    (subst P put more, c.call_on-reply.ensures.below ∙ l.invariant.1)
 
 pub returns : goal.returns
 returns g c =

@@ -8,10 +8,10 @@ pub returns : goal.returns
 returns g c =
     let calls = length c.args.calls.now in
     let places = length c.args.replies.now in
-    let all = c.call-all.ensures in
+    let all = c.call_all.ensures in
     record {
       fault = sym (cond-false (ltb places calls) (Some Replies) None (le-ltb places calls c.if-replies-calls.false));
       below = all.below;
       made = (all.made, all.closed);
-      life = fresh_life g.met.Cost.CostKind.lawful c.node-count.ensures.lawful all.made all.closed;
+      life = fresh_life g.met.Cost.CostKind.lawful c.node_count.ensures.lawful all.made all.closed;
     }

@@ -5,8 +5,8 @@ use Rattle.search.proofs.SettleFacts.{skipped, dropped, followed, skipped_ready,
 use Rattle.search.proofs.TieFacts.{row_read}
 use Rattle.search.proofs.turn.settle_at.Goals as goal
 
-pub returns-then-is-scanned : goal.returns-then-is-scanned
-returns-then-is-scanned g c =
+pub returns-then-is_scanned : goal.returns-then-is_scanned
+returns-then-is_scanned g c =
     let k = g.Cost.CostKind.kind in
     let laws = g.met.Cost.CostKind.lawful in
     let f = g.P.Plant.floor c.args.plant.now in
@@ -16,16 +16,16 @@ returns-then-is-scanned g c =
     let met = c.args.met in
     let t = c.requires.taken in
     let row : row_at k others e.node ≡ c.index-others-e.result = row_read k others e.node c.index-others-e.result (omega (arith, c.requires.others, t.within)) c.index-others-e.is in
-    let there : is_scanned (row_at k others e.node).state ≡ true = ap (λ (r : Row g.row.P-Cost.Denot). is_scanned r.state) row ∙ sym c.is_scanned.ensures ∙ c.if-is-scanned.true in
-    let marked = c.mark-as.ensures in
+    let there : is_scanned (row_at k others e.node).state ≡ true = ap (λ (r : Row g.row.P-Cost.Denot). is_scanned r.state) row ∙ sym c.is_scanned.ensures ∙ c.if-is_scanned.true in
+    let marked = c.mark_as.ensures in
     record {
-      settles = skipped k f c.args.source rows c.mark-as.new.rows others c.args.last e met there marked;
+      settles = skipped k f c.args.source rows c.mark_as.new.rows others c.args.last e met there marked;
       met = c.requires.met;
-      ready = skipped_ready k laws f c.requires.laws c.args.target rows c.args.queue.now e t c.mark-as.new.rows marked;
+      ready = skipped_ready k laws f c.requires.laws c.args.target rows c.args.queue.now e t c.mark_as.new.rows marked;
     }
 
-pub returns-then-at-most : goal.returns-then-at-most
-returns-then-at-most g c =
+pub returns-then-at_most : goal.returns-then-at_most
+returns-then-at_most g c =
     let k = g.Cost.CostKind.kind in
     let laws = g.met.Cost.CostKind.lawful in
     let f = g.P.Plant.floor c.args.plant.now in
@@ -35,18 +35,18 @@ returns-then-at-most g c =
     let met = c.args.met in
     let t = c.requires.taken in
     let row : row_at k others e.node ≡ c.index-others-e.result = row_read k others e.node c.index-others-e.result (omega (arith, c.requires.others, t.within)) c.index-others-e.is in
-    let apart : is_scanned (row_at k others e.node).state ≡ false = ap (λ (r : Row g.row.P-Cost.Denot). is_scanned r.state) row ∙ sym c.is_scanned.ensures ∙ c.if-is-scanned.false in
+    let apart : is_scanned (row_at k others e.node).state ≡ false = ap (λ (r : Row g.row.P-Cost.Denot). is_scanned r.state) row ∙ sym c.is_scanned.ensures ∙ c.if-is_scanned.false in
     let is : c.join.result ≡ k.join e.label (k.rest c.args.last (f.bound c.args.source e.node)) = c.join.ensures ∙ ap (k.join e.label) (c.rest-rest.ensures ∙ ap (k.rest c.args.last) c.bound.ensures) in
-    let far : k.at_most met.cost c.join.result ≡ true = sym c.at-most.ensures ∙ c.if-at-most.true in
-    let marked = c.mark-as-then-at-most.ensures in
+    let far : k.at_most met.cost c.join.result ≡ true = sym c.at_most.ensures ∙ c.if-at_most.true in
+    let marked = c.mark_as-then-at_most.ensures in
     record {
-      settles = dropped k f c.args.source rows c.mark-as-then-at-most.new.rows others c.args.last e met apart c.join.result is far marked;
+      settles = dropped k f c.args.source rows c.mark_as-then-at_most.new.rows others c.args.last e met apart c.join.result is far marked;
       met = c.requires.met;
-      ready = dropped_ready k laws f c.requires.laws c.args.target rows c.args.queue.now e t c.mark-as-then-at-most.new.rows marked;
+      ready = dropped_ready k laws f c.requires.laws c.args.target rows c.args.queue.now e t c.mark_as-then-at_most.new.rows marked;
     }
 
-pub meet-out-requires : goal.meet-out-requires
-meet-out-requires g c =
+pub meet_out-requires : goal.meet_out-requires
+meet_out-requires g c =
     let k = g.Cost.CostKind.kind in
     let laws = g.met.Cost.CostKind.lawful in
     let f = g.P.Plant.floor c.args.plant.now in
@@ -55,14 +55,14 @@ meet-out-requires g c =
     let t = c.requires.taken in
     let q = c.args.queue.now in
     let target = c.args.target in
-    let marked = c.mark-as-2.ensures in
+    let marked = c.mark_as-2.ensures in
     record {
       laws = c.requires.laws;
-      rows = out_long k laws f c.requires.laws target rows q e t c.mark-as-2.new.rows marked;
+      rows = out_long k laws f c.requires.laws target rows q e t c.mark_as-2.new.rows marked;
       others = c.requires.others;
       met = c.requires.met;
-      front = out_front k laws f c.requires.laws target rows q e t c.mark-as-2.new.rows marked;
-      room = out_room k laws f c.requires.laws target rows q e t c.mark-as-2.new.rows marked;
+      front = out_front k laws f c.requires.laws target rows q e t c.mark_as-2.new.rows marked;
+      room = out_room k laws f c.requires.laws target rows q e t c.mark_as-2.new.rows marked;
     }
 
 pub returns : goal.returns
@@ -76,13 +76,13 @@ returns g c =
     let met = c.args.met in
     let t = c.requires.taken in
     let row : row_at k others e.node ≡ c.index-others-e.result = row_read k others e.node c.index-others-e.result (omega (arith, c.requires.others, t.within)) c.index-others-e.is in
-    let apart : is_scanned (row_at k others e.node).state ≡ false = ap (λ (r : Row g.row.P-Cost.Denot). is_scanned r.state) row ∙ sym c.is_scanned.ensures ∙ c.if-is-scanned.false in
+    let apart : is_scanned (row_at k others e.node).state ≡ false = ap (λ (r : Row g.row.P-Cost.Denot). is_scanned r.state) row ∙ sym c.is_scanned.ensures ∙ c.if-is_scanned.false in
     let is : c.join.result ≡ k.join e.label (k.rest c.args.last (f.bound c.args.source e.node)) = c.join.ensures ∙ ap (k.join e.label) (c.rest-rest.ensures ∙ ap (k.rest c.args.last) c.bound.ensures) in
-    let near : k.at_most met.cost c.join.result ≡ false = sym c.at-most.ensures ∙ c.if-at-most.false in
-    let marked = c.mark-as-2.ensures in
-    let told = c.meet-out.ensures in
+    let near : k.at_most met.cost c.join.result ≡ false = sym c.at_most.ensures ∙ c.if-at_most.false in
+    let marked = c.mark_as-2.ensures in
+    let told = c.meet_out.ensures in
     record {
-      settles = followed k f c.args.source rows c.meet-out.new.rows others c.args.last e met apart c.join.result is near c.mark-as-2.new.rows c.meet-out.result marked told.spread;
+      settles = followed k f c.args.source rows c.meet_out.new.rows others c.args.last e met apart c.join.result is near c.mark_as-2.new.rows c.meet_out.result marked told.spread;
       met = told.met;
-      ready = followed_ready k laws f c.requires.laws c.args.target rows c.args.queue.now e t c.mark-as-2.new.rows marked others c.meet-out.new.rows met c.meet-out.result c.meet-out.new.queue told.spread told.front told.count told.room;
+      ready = followed_ready k laws f c.requires.laws c.args.target rows c.args.queue.now e t c.mark_as-2.new.rows marked others c.meet_out.new.rows met c.meet_out.result c.meet_out.new.queue told.spread told.front told.count told.room;
     }

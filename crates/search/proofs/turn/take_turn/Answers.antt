@@ -7,8 +7,8 @@ use Rattle.search.proofs.TieFacts.{tied_scan}
 use Rattle.search.proofs.TwoSteps.{two_ends, two_stops, two_turns}
 use Rattle.search.proofs.turn.take_turn.Goals as goal
 
-pub returns-then-at-most : goal.returns-then-at-most
-returns-then-at-most g c =
+pub returns-then-at_most : goal.returns-then-at_most
+returns-then-at_most g c =
     let k = g.Cost.CostKind.kind in
     let laws = g.met.Cost.CostKind.lawful in
     let f = g.P.Plant.floor c.args.plant.now in
@@ -21,13 +21,13 @@ returns-then-at-most g c =
     let es = held c.args.queue.now in
     let tied = c.requires.ready.front.tied in
     let e = c.in-Some.e in
-    let q = c.next-live.new.queue in
+    let q = c.next_live.new.queue in
     let told = c.in-Some.ensures in
-    let stop : k.at_most met.cost e.key ≡ true = sym c.if-at-most.ensures in
+    let stop : k.at_most met.cost e.key ≡ true = sym c.if-at_most.ensures in
     (refl, λ n x. two_stops k f source target n (both_of rows x others last met) e (some_able k laws f target rows es tied (held q) e told.next (λ _. true) refl) stop)
 
-pub settle-at-met-requires : goal.settle-at-met-requires
-settle-at-met-requires g c =
+pub settle_at-met-requires : goal.settle_at-met-requires
+settle_at-met-requires g c =
     let k = g.Cost.CostKind.kind in
     let laws = g.met.Cost.CostKind.lawful in
     let f = g.P.Plant.floor c.args.plant.now in
@@ -40,7 +40,7 @@ settle-at-met-requires g c =
     let es = held c.args.queue.now in
     let tied = c.requires.ready.front.tied in
     let e = c.in-Some.e in
-    let q = c.next-live.new.queue in
+    let q = c.next_live.new.queue in
     let told = c.in-Some.ensures in
     let within = tied.noted.within e told.next.here in
     record {
@@ -56,8 +56,8 @@ settle-at-met-requires g c =
       };
     }
 
-pub returns-else-at-most : goal.returns-else-at-most
-returns-else-at-most g c =
+pub returns-else-at_most : goal.returns-else-at_most
+returns-else-at_most g c =
     let k = g.Cost.CostKind.kind in
     let laws = g.met.Cost.CostKind.lawful in
     let f = g.P.Plant.floor c.args.plant.now in
@@ -70,10 +70,10 @@ returns-else-at-most g c =
     let es = held c.args.queue.now in
     let tied = c.requires.ready.front.tied in
     let e = c.in-Some.e in
-    let q = c.next-live.new.queue in
+    let q = c.next_live.new.queue in
     let told = c.in-Some.ensures in
-    let go : k.at_most met.cost e.key ≡ false = sym c.if-at-most.ensures in
-    let done = c.settle-at-met.ensures in
+    let go : k.at_most met.cost e.key ≡ false = sym c.if-at_most.ensures in
+    let done = c.settle_at-met.ensures in
     record {
       goes = λ n x. two_turns k f source target n (both_of rows x others last met) e (some_able k laws f target rows es tied (held q) e told.next (λ _. true) refl) go
           ∙ ap (λ (b : Both g.row.P-Cost.Denot). flip (two_from k (turned f) target source n (flip b))) (done.settles x);

@@ -14,11 +14,11 @@ begin-requires g c =
 pub begin-requires-2 : goal.begin-requires-2
 begin-requires-2 g c =
     let f = g.P.Plant.floor c.args.plant.now in
-    let fresh = c.new-back-queue.ensures in
+    let fresh = c.new-back_queue.ensures in
     record { rows = c.requires.back; start = c.requires.goal; empty = fresh.count; heap = fresh.heap; room = omega (arith, length-map f.lanes turn, fresh.room, c.requires.space) }
 
-pub take-turns-requires : goal.take-turns-requires
-take-turns-requires g c =
+pub take_turns-requires : goal.take_turns-requires
+take_turns-requires g c =
     let k = g.Cost.CostKind.kind in
     let f = g.P.Plant.floor c.args.plant.now in
     let start = c.args.start in
@@ -27,7 +27,7 @@ take-turns-requires g c =
       laws = c.requires.laws;
       ready = c.begin.ensures.ready;
       back = c.begin-2.ensures.ready;
-      met = subst (λ (m : Meeting g.row.P-Cost.Denot). m.node < f.nodes) (sym c.first-meeting-met.ensures) within;
+      met = subst (λ (m : Meeting g.row.P-Cost.Denot). m.node < f.nodes) (sym c.first_meeting-met.ensures) within;
     }
 
 pub returns : goal.returns
@@ -36,9 +36,9 @@ returns g c =
     let f = g.P.Plant.floor c.args.plant.now in
     let start = c.args.start in
     let goal = c.args.goal in
-    let told = c.take-turns.ensures in
-    let same : two_from k f start goal (suc (2 * f.nodes)) (both_of c.begin.new.rows k.zero c.begin-2.new.rows k.zero c.first-meeting-met.result) ≡ two_way k f start goal =
-    λ i. two_from k f start goal (suc (2 * f.nodes)) (both_of (c.begin.ensures.rows i) k.zero (c.begin-2.ensures.rows i) k.zero (c.first-meeting-met.ensures i)) in
+    let told = c.take_turns.ensures in
+    let same : two_from k f start goal (suc (2 * f.nodes)) (both_of c.begin.new.rows k.zero c.begin-2.new.rows k.zero c.first_meeting-met.result) ≡ two_way k f start goal =
+    λ i. two_from k f start goal (suc (2 * f.nodes)) (both_of (c.begin.ensures.rows i) k.zero (c.begin-2.ensures.rows i) k.zero (c.first_meeting-met.ensures i)) in
     record {
       rows = told.rows ∙ ap (λ (b : Both g.row.P-Cost.Denot). b.near.rows) same;
       back = told.back ∙ ap (λ (b : Both g.row.P-Cost.Denot). b.far.rows) same;

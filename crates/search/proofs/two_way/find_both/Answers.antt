@@ -6,57 +6,57 @@ use Rattle.search.specs.TwoWay.{joined, two_way, two_route}
 use Rattle.search.proofs.BothFacts.{beyond_told, route_told, nodes_short}
 use Rattle.search.proofs.two_way.find_both.Goals as goal
 
-pub returns-then-at-most : goal.returns-then-at-most
-returns-then-at-most g c =
+pub returns-then-at_most : goal.returns-then-at_most
+returns-then-at_most g c =
     let k = g.Cost.CostKind.kind in
     let laws = g.met.Cost.CostKind.lawful in
     let f = g.P.Plant.floor c.args.plant.now in
     let start = c.args.start in
     let goal = c.args.goal in
-    let ran = c.run-both-cost.ensures in
-    let ours = c.scanned-of-ours.ensures ∙ ap (λ (xs : List (Row g.row.P-Cost.Denot)). count_scanned xs) ran.rows in
-    let theirs = c.scanned-of-theirs.ensures ∙ ap (λ (xs : List (Row g.row.P-Cost.Denot)). count_scanned xs) ran.back in
+    let ran = c.run_both-cost.ensures in
+    let ours = c.scanned_of-ours.ensures ∙ ap (λ (xs : List (Row g.row.P-Cost.Denot)). count_scanned xs) ran.rows in
+    let theirs = c.scanned_of-theirs.ensures ∙ ap (λ (xs : List (Row g.row.P-Cost.Denot)). count_scanned xs) ran.back in
     let far : k.at_most k.beyond (two_way k f start goal).met.cost ≡ true =
-    (λ i. k.at_most (sym c.beyond.ensures i) (sym ran.met i).cost) ∙ sym c.if-at-most.ensures in
-    let told = beyond_told k f start goal c.scanned-of-ours.result c.scanned-of-theirs.result c.args.route.now far ours theirs in
+    (λ i. k.at_most (sym c.beyond.ensures i) (sym ran.met i).cost) ∙ sym c.if-at_most.ensures in
+    let told = beyond_told k f start goal c.scanned_of-ours.result c.scanned_of-theirs.result c.args.route.now far ours theirs in
     record { rows = ran.rows; back = ran.back; answer = told.0; route = told.1 }
 
-pub write-both-nodes-requires : goal.write-both-nodes-requires
-write-both-nodes-requires g c =
+pub write_both-nodes-requires : goal.write_both-nodes-requires
+write_both-nodes-requires g c =
     let k = g.Cost.CostKind.kind in
     let laws = g.met.Cost.CostKind.lawful in
     let f = g.P.Plant.floor c.args.plant.now in
     let start = c.args.start in
     let goal = c.args.goal in
-    let ran = c.run-both-cost.ensures in
+    let ran = c.run_both-cost.ensures in
     let near : k.at_most k.beyond (two_way k f start goal).met.cost ≡ false =
-    (λ i. k.at_most (sym c.beyond.ensures i) (sym ran.met i).cost) ∙ sym c.at-most.ensures ∙ c.if-at-most.false in
-    let same : joined k f start goal c.run-both-cost.new.rows c.run-both-cost.new.back c.run-both-cost.result.node ≡ two_route k f start goal =
+    (λ i. k.at_most (sym c.beyond.ensures i) (sym ran.met i).cost) ∙ sym c.at_most.ensures ∙ c.if-at_most.false in
+    let same : joined k f start goal c.run_both-cost.new.rows c.run_both-cost.new.back c.run_both-cost.result.node ≡ two_route k f start goal =
     λ i. joined k f start goal (ran.rows i) (ran.back i) (ran.met i).node in
     let short = nodes_short k f start goal laws c.requires.laws c.requires.start c.requires.goal near in
     record {
       laws = c.requires.laws;
-      rows = c.run-both-cost.auto.rows ∙ c.requires.rows;
-      back = c.run-both-cost.auto.back ∙ c.requires.back;
+      rows = c.run_both-cost.auto.rows ∙ c.requires.rows;
+      back = c.run_both-cost.auto.back ∙ c.requires.back;
       via = ran.within;
       route = c.requires.route;
       short = omega (arith, short, ap length same);
     }
 
-pub overflow-cast-nodes : goal.overflow-cast-nodes
-overflow-cast-nodes g c =
+pub overflow_cast-nodes : goal.overflow_cast-nodes
+overflow_cast-nodes g c =
     let k = g.Cost.CostKind.kind in
     let laws = g.met.Cost.CostKind.lawful in
     let f = g.P.Plant.floor c.args.plant.now in
     let start = c.args.start in
     let goal = c.args.goal in
-    let ran = c.run-both-cost.ensures in
+    let ran = c.run_both-cost.ensures in
     let near : k.at_most k.beyond (two_way k f start goal).met.cost ≡ false =
-    (λ i. k.at_most (sym c.beyond.ensures i) (sym ran.met i).cost) ∙ sym c.at-most.ensures ∙ c.if-at-most.false in
-    let same : joined k f start goal c.run-both-cost.new.rows c.run-both-cost.new.back c.run-both-cost.result.node ≡ two_route k f start goal =
+    (λ i. k.at_most (sym c.beyond.ensures i) (sym ran.met i).cost) ∙ sym c.at_most.ensures ∙ c.if-at_most.false in
+    let same : joined k f start goal c.run_both-cost.new.rows c.run_both-cost.new.back c.run_both-cost.result.node ≡ two_route k f start goal =
     λ i. joined k f start goal (ran.rows i) (ran.back i) (ran.met i).node in
     let short = nodes_short k f start goal laws c.requires.laws c.requires.start c.requires.goal near in
-    let h : c.write-both-nodes.result < 2 ^ 32 = omega (arith, c.write-both-nodes.ensures.count, ap length same, short, c.requires.laws.few_nodes) in
+    let h : c.write_both-nodes.result < 2 ^ 32 = omega (arith, c.write_both-nodes.ensures.count, ap length same, short, c.requires.laws.few_nodes) in
     search rules
 
 pub returns : goal.returns
@@ -66,14 +66,14 @@ returns g c =
     let f = g.P.Plant.floor c.args.plant.now in
     let start = c.args.start in
     let goal = c.args.goal in
-    let ran = c.run-both-cost.ensures in
+    let ran = c.run_both-cost.ensures in
     let near : k.at_most k.beyond (two_way k f start goal).met.cost ≡ false =
-    (λ i. k.at_most (sym c.beyond.ensures i) (sym ran.met i).cost) ∙ sym c.at-most.ensures ∙ c.if-at-most.false in
-    let same : joined k f start goal c.run-both-cost.new.rows c.run-both-cost.new.back c.run-both-cost.result.node ≡ two_route k f start goal =
+    (λ i. k.at_most (sym c.beyond.ensures i) (sym ran.met i).cost) ∙ sym c.at_most.ensures ∙ c.if-at_most.false in
+    let same : joined k f start goal c.run_both-cost.new.rows c.run_both-cost.new.back c.run_both-cost.result.node ≡ two_route k f start goal =
     λ i. joined k f start goal (ran.rows i) (ran.back i) (ran.met i).node in
     let short = nodes_short k f start goal laws c.requires.laws c.requires.start c.requires.goal near in
-    let ours = c.scanned-of-ours.ensures ∙ ap (λ (xs : List (Row g.row.P-Cost.Denot)). count_scanned xs) ran.rows in
-    let theirs = c.scanned-of-theirs.ensures ∙ ap (λ (xs : List (Row g.row.P-Cost.Denot)). count_scanned xs) ran.back in
-    let wrote = c.write-both-nodes.ensures in
-    let told = route_told k f start goal c.run-both-cost.result.cost c.scanned-of-ours.result c.scanned-of-theirs.result c.write-both-nodes.result c.write-both-nodes.new.route c.args.route.now near (λ i. (ran.met i).cost) ours theirs (wrote.count ∙ ap length same) (wrote.wrote ∙ ap (λ (xs : List ℕ). onto xs c.args.route.now) same) in
+    let ours = c.scanned_of-ours.ensures ∙ ap (λ (xs : List (Row g.row.P-Cost.Denot)). count_scanned xs) ran.rows in
+    let theirs = c.scanned_of-theirs.ensures ∙ ap (λ (xs : List (Row g.row.P-Cost.Denot)). count_scanned xs) ran.back in
+    let wrote = c.write_both-nodes.ensures in
+    let told = route_told k f start goal c.run_both-cost.result.cost c.scanned_of-ours.result c.scanned_of-theirs.result c.write_both-nodes.result c.write_both-nodes.new.route c.args.route.now near (λ i. (ran.met i).cost) ours theirs (wrote.count ∙ ap length same) (wrote.wrote ∙ ap (λ (xs : List ℕ). onto xs c.args.route.now) same) in
     record { rows = ran.rows; back = ran.back; answer = told.0; route = told.1 }

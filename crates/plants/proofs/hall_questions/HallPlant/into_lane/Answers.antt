@@ -13,8 +13,8 @@ returns-then-v-nodes c =
       | then-v-nodes-via-else-v-nodes+then-j-ge4 w ↦ sym (into_past _ _ _ rows c.args.v w.if-v-nodes.false c.args.j w.if-j-ge4.true)
     ]
 
-pub overflow-add-south : goal.overflow-add-south
-overflow-add-south c =
+pub overflow_add-south : goal.overflow_add-south
+overflow_add-south c =
     let rows = rows_of c.args.self.now in
     let inside = c.if-v-nodes.false in
     omega arith

@@ -11,7 +11,7 @@ pub bounds-self-head : goal.bounds-self-head
 bounds-self-head c =
     let h = c.args.self.now in
     let k = c.args.k in
-    let below = neighbour_in _ _ (rows_of h) (k / 4) c.if-v-self.false (k % 4) c.in-Some.head (sym c.neighbour-of.ensures ∙ c.in-Some.is) in
+    let below = neighbour_in _ _ (rows_of h) (k / 4) c.if-v-self.false (k % 4) c.in-Some.head (sym c.neighbour_of.ensures ∙ c.in-Some.is) in
     let sized = h.sized in
     omega arith
 

@@ -7,8 +7,8 @@ use Rattle.plants.proofs.questions.LanePlantPlant.into_lane.Goals as goal
 pub returns-then-v-self : goal.returns-then-v-self
 returns-then-v-self c = sym (into_outside _ _ _ (kept c.args.self.now) c.args.v c.args.j c.if-v-self.true)
 
-pub overflow-sub-past : goal.overflow-sub-past
-overflow-sub-past c = into_rises _ _ _ (kept c.args.self.now) c.args.v c.if-v-self.false
+pub overflow_sub-past : goal.overflow_sub-past
+overflow_sub-past c = into_rises _ _ _ (kept c.args.self.now) c.args.v c.if-v-self.false
 
 pub bounds-lists-from : goal.bounds-lists-from
 bounds-lists-from c =

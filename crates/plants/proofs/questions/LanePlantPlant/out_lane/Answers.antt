@@ -7,8 +7,8 @@ use Rattle.plants.proofs.questions.LanePlantPlant.out_lane.Goals as goal
 pub returns-then-v-self : goal.returns-then-v-self
 returns-then-v-self c = sym (out_outside _ _ _ (kept c.args.self.now) c.args.v c.args.j c.if-v-self.true)
 
-pub overflow-sub-past : goal.overflow-sub-past
-overflow-sub-past c = out_rises _ _ _ (kept c.args.self.now) c.args.v c.if-v-self.false
+pub overflow_sub-past : goal.overflow_sub-past
+overflow_sub-past c = out_rises _ _ _ (kept c.args.self.now) c.args.v c.if-v-self.false
 
 pub returns-then-j-past : goal.returns-then-j-past
 returns-then-j-past c = sym (out_at _ _ _ (kept c.args.self.now) c.args.v c.args.j c.if-v-self.false c.if-j-past.true)
