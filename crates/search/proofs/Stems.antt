@@ -1,6 +1,6 @@
 -- The paths that the rows of a side make: each leads back to the side's source, over followed nodes, and repeats no node.
 use Rattle.std.proofs.Common.{◌≡◌, ℕ, zero, suc, ◌+◌, ◌≤◌, true, false, ◌⊎◌, List, [], ◌∷◌, ◌++◌, reverse, length, Some, Option, sym, refl, ap, ◌∙◌, subst, inl, inr, arith}
-use mathlib.Core.List.{reverse_aux, reverse_cons}
+use mathlib.Core.List.{reverse_aux, reverse-cons}
 use Rattle.std.specs.List.{slice_get}
 use Rattle.std.proofs.lemmas.Bool.{cases_eq, both_ways}
 use Rattle.cost.specs.Kind.{Kind, Laws}
@@ -86,7 +86,7 @@ module _ {C : Type 0} {k : Kind C} (laws : Laws k) where
         lanes = d.lanes ++ i ∷ [];
         walk = subst (Walk f s (d.lanes ++ i ∷ [])) into (walk_push k laws f d.lanes s l.tail i l d.walk there refl);
         costs = cost_push k laws f d.lanes i l there ∙ (ap (λ x. k.join x l.cost) d.costs ∙ sym labels);
-        nodes = ap (λ (x : List ℕ). s ∷ x) (heads_push k laws f d.lanes i l there) ∙ (λ j. d.nodes j ++ into j ∷ []) ∙ sym (reverse_cons v ns);
+        nodes = ap (λ (x : List ℕ). s ∷ x) (heads_push k laws f d.lanes i l there) ∙ (λ j. d.nodes j ++ into j ∷ []) ∙ sym (reverse-cons v ns);
       }
 
   pub stem_up : {f : Floor C} {t : ℕ} {rows : List (Row C)} {old : List ℕ} → label_at k rows t ≡ k.zero → {v : ℕ} {ns : List ℕ} → Stem k (turned f) t rows old v ns → Up k f t rows v ns

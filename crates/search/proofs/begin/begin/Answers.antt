@@ -20,8 +20,8 @@ offset_bounds-rows-start g c =
 
 pub returns : goal.returns
 returns g c =
-    let k = g.Cost.CostKind.kind in
-    let laws = g.met.Cost.CostKind.lawful in
+    let k = g.P.Cost.CostKind.kind in
+    let laws = g.met.P.Cost.CostKind.lawful in
     let f = g.P.Plant.floor c.args.plant.now in
     let start = c.args.start in
     let goal = c.args.goal in

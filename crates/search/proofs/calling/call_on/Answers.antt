@@ -23,7 +23,7 @@ returns-in-Ok g c =
     let back = c.args.back_rows.now in
     let routes = c.args.routes.now in
     let a = areas (length rows) (length c.args.queue.now) (length back) (length c.args.back_queue.now) (length routes) in
-    let P : Call → Type 0 = λ x. Makes (made g.Cost.CostKind.kind f a closed c.args.at x) c.args.at (Closed c.in-Close.k) rows rows back back routes routes in
+    let P : Call → Type 0 = λ x. Makes (made g.P.Cost.CostKind.kind f a closed c.args.at x) c.args.at (Closed c.in-Close.k) rows rows back back routes routes in
     record {
       makes = subst P (sym c.in-Close.is) (shift_accepts c.args.at rows rows back back routes c.requires (close_fault (length f.lanes) closed c.in-Close.k) (Closed c.in-Close.k) c.in-Ok.ensures.fault);
       closed = c.in-Ok.ensures.closed;
@@ -38,7 +38,7 @@ returns-in-Err g c =
     let back = c.args.back_rows.now in
     let routes = c.args.routes.now in
     let a = areas (length rows) (length c.args.queue.now) (length back) (length c.args.back_queue.now) (length routes) in
-    let P : Call → Type 0 = λ x. Makes (made g.Cost.CostKind.kind f a closed c.args.at x) c.args.at (Refused (Shift c.in-Err.x)) rows rows back back routes routes in
+    let P : Call → Type 0 = λ x. Makes (made g.P.Cost.CostKind.kind f a closed c.args.at x) c.args.at (Refused (Shift c.in-Err.x)) rows rows back back routes routes in
     record {
       makes = subst P (sym c.in-Close.is) (shift_refuses c.args.at rows rows back back routes c.requires (close_fault (length f.lanes) closed c.in-Close.k) (Closed c.in-Close.k) c.in-Err.x c.in-Err.ensures.fault);
       closed = ap closed_list c.in-Err.ensures.closed;
@@ -53,7 +53,7 @@ returns-in-Ok-reopen g c =
     let back = c.args.back_rows.now in
     let routes = c.args.routes.now in
     let a = areas (length rows) (length c.args.queue.now) (length back) (length c.args.back_queue.now) (length routes) in
-    let P : Call → Type 0 = λ x. Makes (made g.Cost.CostKind.kind f a closed c.args.at x) c.args.at (Reopened c.in-Reopen.k) rows rows back back routes routes in
+    let P : Call → Type 0 = λ x. Makes (made g.P.Cost.CostKind.kind f a closed c.args.at x) c.args.at (Reopened c.in-Reopen.k) rows rows back back routes routes in
     record {
       makes = subst P (sym c.in-Reopen.is) (shift_accepts c.args.at rows rows back back routes c.requires (reopen_fault (length f.lanes) closed c.in-Reopen.k) (Reopened c.in-Reopen.k) c.in-Ok-reopen.ensures.fault);
       closed = c.in-Ok-reopen.ensures.closed;
@@ -68,7 +68,7 @@ returns-in-Err-reopen g c =
     let back = c.args.back_rows.now in
     let routes = c.args.routes.now in
     let a = areas (length rows) (length c.args.queue.now) (length back) (length c.args.back_queue.now) (length routes) in
-    let P : Call → Type 0 = λ x. Makes (made g.Cost.CostKind.kind f a closed c.args.at x) c.args.at (Refused (Shift c.in-Err-reopen.x)) rows rows back back routes routes in
+    let P : Call → Type 0 = λ x. Makes (made g.P.Cost.CostKind.kind f a closed c.args.at x) c.args.at (Refused (Shift c.in-Err-reopen.x)) rows rows back back routes routes in
     record {
       makes = subst P (sym c.in-Reopen.is) (shift_refuses c.args.at rows rows back back routes c.requires (reopen_fault (length f.lanes) closed c.in-Reopen.k) (Reopened c.in-Reopen.k) c.in-Err-reopen.x c.in-Err-reopen.ensures.fault);
       closed = ap closed_list c.in-Err-reopen.ensures.closed;
@@ -77,7 +77,7 @@ returns-in-Err-reopen g c =
 
 pub returns-in-One : goal.returns-in-One
 returns-in-One g c =
-    let k = g.Cost.CostKind.kind in
+    let k = g.P.Cost.CostKind.kind in
     let f = g.P.Plant.floor c.args.shift.now.below in
     let closed = closed_list c.args.shift.now in
     let F = shut k (among closed) f in
@@ -98,7 +98,7 @@ returns-in-One g c =
 
 pub returns-in-Two : goal.returns-in-Two
 returns-in-Two g c =
-    let k = g.Cost.CostKind.kind in
+    let k = g.P.Cost.CostKind.kind in
     let f = g.P.Plant.floor c.args.shift.now.below in
     let closed = closed_list c.args.shift.now in
     let F = shut k (among closed) f in

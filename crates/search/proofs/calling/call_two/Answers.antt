@@ -13,7 +13,7 @@ use Rattle.search.proofs.calling.call_two.Goals as goal
 
 pub returns-in-Ok : goal.returns-in-Ok
 returns-in-Ok g c =
-    let k = g.Cost.CostKind.kind in
+    let k = g.P.Cost.CostKind.kind in
     let f = g.P.Plant.floor c.args.shift.now.below in
     let closed = closed_list c.args.shift.now in
     let F = shut k (among closed) f in
@@ -39,7 +39,7 @@ returns-in-Ok g c =
 
 pub returns-in-Err : goal.returns-in-Err
 returns-in-Err g c =
-    let k = g.Cost.CostKind.kind in
+    let k = g.P.Cost.CostKind.kind in
     let f = g.P.Plant.floor c.args.shift.now.below in
     let closed = closed_list c.args.shift.now in
     let F = shut k (among closed) f in

@@ -24,7 +24,7 @@ bounds-others-l g c = omega (arith, c.requires.others, c.requires.laws.head_node
 
 pub returns-then-note : goal.returns-then-note
 returns-then-note g c =
-    let k = g.Cost.CostKind.kind in
+    let k = g.P.Cost.CostKind.kind in
     let f = g.P.Plant.floor c.args.plant.now in
     let l = c.in-Some.l in
     let there = sym c.in-Some.ensures in
@@ -43,7 +43,7 @@ returns-then-note g c =
 
 pub returns-else-note : goal.returns-else-note
 returns-else-note g c =
-    let k = g.Cost.CostKind.kind in
+    let k = g.P.Cost.CostKind.kind in
     let f = g.P.Plant.floor c.args.plant.now in
     let l = c.in-Some.l in
     let told = c.note.ensures in
@@ -60,7 +60,7 @@ returns-in-None g c =
     let f = g.P.Plant.floor c.args.plant.now in
     let h : 0 < length c.args.rows.now = omega (arith, c.requires.rows, c.requires.laws.some_node) in
     record {
-      spread = meet_none g.Cost.CostKind.kind f c.args.others.now c.args.from g.met.Cost.CostKind.lawful c.args.rows.now c.args.met c.args.k h (sym c.in-None.ensures);
+      spread = meet_none g.P.Cost.CostKind.kind f c.args.others.now c.args.from g.met.P.Cost.CostKind.lawful c.args.rows.now c.args.met c.args.k h (sym c.in-None.ensures);
       met = c.requires.met;
       front = c.requires.front;
       count = omega arith;

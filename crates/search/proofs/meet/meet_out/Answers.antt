@@ -24,7 +24,7 @@ meet_lane-met-requires g c =
 
 pub loop-j-preserved : goal.loop-j-preserved
 loop-j-preserved g c =
-    let k = g.Cost.CostKind.kind in
+    let k = g.P.Cost.CostKind.kind in
     let f = g.P.Plant.floor c.args.plant.now in
     let is = out_of f c.args.node in
     let l = c.loop-j in
@@ -41,7 +41,7 @@ loop-j-preserved g c =
 
 pub returns-in-None : goal.returns-in-None
 returns-in-None g c =
-    let k = g.Cost.CostKind.kind in
+    let k = g.P.Cost.CostKind.kind in
     let f = g.P.Plant.floor c.args.plant.now in
     let is = out_of f c.args.node in
     let l = c.loop-j in
@@ -56,7 +56,7 @@ returns-in-None g c =
 
 pub returns : goal.returns
 returns g c =
-    let k = g.Cost.CostKind.kind in
+    let k = g.P.Cost.CostKind.kind in
     let f = g.P.Plant.floor c.args.plant.now in
     let is = out_of f c.args.node in
     let l = c.loop-j in

@@ -7,7 +7,7 @@ use Rattle.search.proofs.one_way.find.Goals as goal
 
 pub returns-then-at_most : goal.returns-then-at_most
 returns-then-at_most g c =
-    let k = g.Cost.CostKind.kind in
+    let k = g.P.Cost.CostKind.kind in
     let f = g.P.Plant.floor c.args.plant.now in
     let ran = c.run-cost.ensures in
     let far : k.at_most k.beyond (one_way k f c.args.start c.args.goal).cost ≡ true = (λ i. k.at_most (sym c.beyond.ensures i) (sym ran.cost i)) ∙ sym c.if-at_most.ensures in
@@ -16,7 +16,7 @@ returns-then-at_most g c =
 
 pub returns : goal.returns
 returns g c =
-    let k = g.Cost.CostKind.kind in
+    let k = g.P.Cost.CostKind.kind in
     let f = g.P.Plant.floor c.args.plant.now in
     let start = c.args.start in
     let goal = c.args.goal in

@@ -7,8 +7,8 @@ use Rattle.search.proofs.one_way.one_way.Goals as goal
 
 pub returns : goal.returns
 returns g c =
-    let k = g.Cost.CostKind.kind in
-    let laws = g.met.Cost.CostKind.lawful in
+    let k = g.P.Cost.CostKind.kind in
+    let laws = g.met.P.Cost.CostKind.lawful in
     let f = g.P.Plant.floor c.args.plant.now in
     let start = c.args.start in
     let goal = c.args.goal in

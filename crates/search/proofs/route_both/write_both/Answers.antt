@@ -9,7 +9,7 @@ use Rattle.search.proofs.route_both.write_both.Goals as goal
 
 pub overflow_sub-from : goal.overflow_sub-from
 overflow_sub-from g c =
-    let k = g.Cost.CostKind.kind in
+    let k = g.P.Cost.CostKind.kind in
     let f = g.P.Plant.floor c.args.plant.now in
     let start = c.args.start in
     let goal = c.args.goal in
@@ -28,7 +28,7 @@ overflow_sub-from g c =
 
 pub walk_back-more-requires : goal.walk_back-more-requires
 walk_back-more-requires g c =
-    let k = g.Cost.CostKind.kind in
+    let k = g.P.Cost.CostKind.kind in
     let f = g.P.Plant.floor c.args.plant.now in
     let start = c.args.start in
     let goal = c.args.goal in
@@ -45,11 +45,11 @@ walk_back-more-requires g c =
     let count : n ≡ length front + 1 = first_count n 0 xs [] [] front [] via h e in
     let whole = joined_length k f start goal rows back via some in
     let part : length (take (length xs - (n - 1)) (drop (n - 1) xs)) ≡ length xs - (n - 1) = length-take-le (length xs - (n - 1)) (drop (n - 1) xs) (omega (arith, length-drop (n - 1) xs)) in
-    record { laws = turned_laws g.met.Cost.CostKind.lawful c.requires.laws; rows = c.requires.back; goal = c.requires.via; route = omega (arith, part, whole, count, c.requires.short, c.requires.route, c.write_route-from.auto.route) }
+    record { laws = turned_laws g.met.P.Cost.CostKind.lawful c.requires.laws; rows = c.requires.back; goal = c.requires.via; route = omega (arith, part, whole, count, c.requires.short, c.requires.route, c.write_route-from.auto.route) }
 
 pub returns : goal.returns
 returns g c =
-    let k = g.Cost.CostKind.kind in
+    let k = g.P.Cost.CostKind.kind in
     let f = g.P.Plant.floor c.args.plant.now in
     let start = c.args.start in
     let goal = c.args.goal in

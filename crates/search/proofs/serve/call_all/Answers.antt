@@ -19,7 +19,7 @@ put_reply-requires g c = omega (arith, c.requires, c.loop-i-test.true, c.loop-i.
 
 pub overflow_add-at : goal.overflow_add-at
 overflow_add-at g c =
-    let k = g.Cost.CostKind.kind in
+    let k = g.P.Cost.CostKind.kind in
     let f = g.P.Plant.floor c.args.shift.now.below in
     let l = c.loop-i in
     let calls = c.args.calls.now in
@@ -34,7 +34,7 @@ overflow_add-at g c =
 
 pub loop-i-preserved : goal.loop-i-preserved
 loop-i-preserved g c =
-    let k = g.Cost.CostKind.kind in
+    let k = g.P.Cost.CostKind.kind in
     let f = g.P.Plant.floor c.args.shift.now.below in
     let l = c.loop-i in
     let calls = c.args.calls.now in

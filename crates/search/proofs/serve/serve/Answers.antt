@@ -9,7 +9,7 @@ use Rattle.search.proofs.serve.serve.Goals as goal
 
 pub returns : goal.returns
 returns g c =
-    let k = g.Cost.CostKind.kind in
+    let k = g.P.Cost.CostKind.kind in
     let shift = c.fresh-shift.result in
     let fresh = c.fresh-shift.ensures in
     let F : Floor g.row.P-Cost.Denot = g.P.Plant.floor shift.below.now in

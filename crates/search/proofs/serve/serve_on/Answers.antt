@@ -13,5 +13,5 @@ returns g c =
       fault = sym (cond-false (ltb places calls) (Some Replies) None (le-ltb places calls c.if-replies-calls.false));
       below = all.below;
       made = (all.made, all.closed);
-      life = fresh_life g.met.Cost.CostKind.lawful c.node_count.ensures.lawful all.made all.closed;
+      life = fresh_life g.met.P.Cost.CostKind.lawful c.node_count.ensures.lawful all.made all.closed;
     }

@@ -9,8 +9,8 @@ use Rattle.search.proofs.survey.survey_from.Goals as goal
 
 pub returns : goal.returns
 returns g c =
-    let k = g.Cost.CostKind.kind in
-    let laws = g.met.Cost.CostKind.lawful in
+    let k = g.P.Cost.CostKind.kind in
+    let laws = g.met.P.Cost.CostKind.lawful in
     let f = g.P.Plant.floor c.args.plant.now in
     let start = c.args.start in
     let fl = c.node_count-nodes.ensures.lawful in

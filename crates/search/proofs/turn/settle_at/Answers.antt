@@ -7,8 +7,8 @@ use Rattle.search.proofs.turn.settle_at.Goals as goal
 
 pub returns-then-is_scanned : goal.returns-then-is_scanned
 returns-then-is_scanned g c =
-    let k = g.Cost.CostKind.kind in
-    let laws = g.met.Cost.CostKind.lawful in
+    let k = g.P.Cost.CostKind.kind in
+    let laws = g.met.P.Cost.CostKind.lawful in
     let f = g.P.Plant.floor c.args.plant.now in
     let rows = c.args.rows.now in
     let others = c.args.others.now in
@@ -26,8 +26,8 @@ returns-then-is_scanned g c =
 
 pub returns-then-at_most : goal.returns-then-at_most
 returns-then-at_most g c =
-    let k = g.Cost.CostKind.kind in
-    let laws = g.met.Cost.CostKind.lawful in
+    let k = g.P.Cost.CostKind.kind in
+    let laws = g.met.P.Cost.CostKind.lawful in
     let f = g.P.Plant.floor c.args.plant.now in
     let rows = c.args.rows.now in
     let others = c.args.others.now in
@@ -47,8 +47,8 @@ returns-then-at_most g c =
 
 pub meet_out-requires : goal.meet_out-requires
 meet_out-requires g c =
-    let k = g.Cost.CostKind.kind in
-    let laws = g.met.Cost.CostKind.lawful in
+    let k = g.P.Cost.CostKind.kind in
+    let laws = g.met.P.Cost.CostKind.lawful in
     let f = g.P.Plant.floor c.args.plant.now in
     let rows = c.args.rows.now in
     let e = c.args.e in
@@ -67,8 +67,8 @@ meet_out-requires g c =
 
 pub returns : goal.returns
 returns g c =
-    let k = g.Cost.CostKind.kind in
-    let laws = g.met.Cost.CostKind.lawful in
+    let k = g.P.Cost.CostKind.kind in
+    let laws = g.met.P.Cost.CostKind.lawful in
     let f = g.P.Plant.floor c.args.plant.now in
     let rows = c.args.rows.now in
     let others = c.args.others.now in

@@ -9,8 +9,8 @@ use Rattle.search.proofs.turn.take_turn.Goals as goal
 
 pub returns-then-at_most : goal.returns-then-at_most
 returns-then-at_most g c =
-    let k = g.Cost.CostKind.kind in
-    let laws = g.met.Cost.CostKind.lawful in
+    let k = g.P.Cost.CostKind.kind in
+    let laws = g.met.P.Cost.CostKind.lawful in
     let f = g.P.Plant.floor c.args.plant.now in
     let source = c.args.source in
     let target = c.args.target in
@@ -28,8 +28,8 @@ returns-then-at_most g c =
 
 pub settle_at-met-requires : goal.settle_at-met-requires
 settle_at-met-requires g c =
-    let k = g.Cost.CostKind.kind in
-    let laws = g.met.Cost.CostKind.lawful in
+    let k = g.P.Cost.CostKind.kind in
+    let laws = g.met.P.Cost.CostKind.lawful in
     let f = g.P.Plant.floor c.args.plant.now in
     let source = c.args.source in
     let target = c.args.target in
@@ -58,8 +58,8 @@ settle_at-met-requires g c =
 
 pub returns-else-at_most : goal.returns-else-at_most
 returns-else-at_most g c =
-    let k = g.Cost.CostKind.kind in
-    let laws = g.met.Cost.CostKind.lawful in
+    let k = g.P.Cost.CostKind.kind in
+    let laws = g.met.P.Cost.CostKind.lawful in
     let f = g.P.Plant.floor c.args.plant.now in
     let source = c.args.source in
     let target = c.args.target in
@@ -83,8 +83,8 @@ returns-else-at_most g c =
 
 pub returns-in-None : goal.returns-in-None
 returns-in-None g c =
-    let k = g.Cost.CostKind.kind in
-    let laws = g.met.Cost.CostKind.lawful in
+    let k = g.P.Cost.CostKind.kind in
+    let laws = g.met.P.Cost.CostKind.lawful in
     let f = g.P.Plant.floor c.args.plant.now in
     let source = c.args.source in
     let target = c.args.target in

@@ -19,7 +19,7 @@ begin-requires-2 g c =
 
 pub take_turns-requires : goal.take_turns-requires
 take_turns-requires g c =
-    let k = g.Cost.CostKind.kind in
+    let k = g.P.Cost.CostKind.kind in
     let f = g.P.Plant.floor c.args.plant.now in
     let start = c.args.start in
     let within = cond_both (eqb start c.args.goal) (record { cost = k.zero; node = start }) (record { cost = k.beyond; node = 0 }) (λ (m : Meeting g.row.P-Cost.Denot). m.node < f.nodes) (λ _. c.requires.start) (λ _. c.requires.laws.some_node) in
@@ -32,7 +32,7 @@ take_turns-requires g c =
 
 pub returns : goal.returns
 returns g c =
-    let k = g.Cost.CostKind.kind in
+    let k = g.P.Cost.CostKind.kind in
     let f = g.P.Plant.floor c.args.plant.now in
     let start = c.args.start in
     let goal = c.args.goal in

@@ -6,14 +6,14 @@ use Rattle.search.proofs.two_sides.take_turns.Goals as goal
 
 pub loop-init : goal.loop-init
 loop-init g c =
-    let k = g.Cost.CostKind.kind in
+    let k = g.P.Cost.CostKind.kind in
     let f = g.P.Plant.floor c.args.plant.now in
     let n : suc (2 * f.nodes) - 2 * 0 ≡ suc (2 * f.nodes) = omega arith in
     (c.requires.ready, c.requires.back, c.requires.met, (k.zero, λ i. two_from k f c.args.start c.args.goal (n i) (both_of c.args.rows.now k.zero c.args.back.now (c.zero-back_last.ensures i) c.args.met)))
 
 pub returns-in_default : goal.returns-in_default
 returns-in_default g c =
-    let k = g.Cost.CostKind.kind in
+    let k = g.P.Cost.CostKind.kind in
     let f = g.P.Plant.floor c.args.plant.now in
     let start = c.args.start in
     let goal = c.args.goal in
@@ -31,11 +31,11 @@ returns-in_default g c =
 pub take_turn-requires-in-loop : goal.take_turn-requires-in-loop
 take_turn-requires-in-loop g c =
     let went = c.in-Some.ensures in
-    record { laws = turned_laws g.met.Cost.CostKind.lawful c.requires.laws; others = went.ready.long; met = went.within; ready = c.loop.invariant.1 }
+    record { laws = turned_laws g.met.P.Cost.CostKind.lawful c.requires.laws; others = went.ready.long; met = went.within; ready = c.loop.invariant.1 }
 
 pub returns-in_default-take_turn : goal.returns-in_default-take_turn
 returns-in_default-take_turn g c =
-    let k = g.Cost.CostKind.kind in
+    let k = g.P.Cost.CostKind.kind in
     let f = g.P.Plant.floor c.args.plant.now in
     let start = c.args.start in
     let goal = c.args.goal in
@@ -54,7 +54,7 @@ returns-in_default-take_turn g c =
 
 pub loop-preserved : goal.loop-preserved
 loop-preserved g c =
-    let k = g.Cost.CostKind.kind in
+    let k = g.P.Cost.CostKind.kind in
     let f = g.P.Plant.floor c.args.plant.now in
     let start = c.args.start in
     let goal = c.args.goal in
@@ -77,7 +77,7 @@ loop-preserved g c =
 
 pub returns-in-Some-take_turn-2 : goal.returns-in-Some-take_turn-2
 returns-in-Some-take_turn-2 g c =
-    let k = g.Cost.CostKind.kind in
+    let k = g.P.Cost.CostKind.kind in
     let f = g.P.Plant.floor c.args.plant.now in
     let start = c.args.start in
     let goal = c.args.goal in
@@ -94,7 +94,7 @@ returns-in-Some-take_turn-2 g c =
 
 pub returns-in-None : goal.returns-in-None
 returns-in-None g c =
-    let k = g.Cost.CostKind.kind in
+    let k = g.P.Cost.CostKind.kind in
     let f = g.P.Plant.floor c.args.plant.now in
     let start = c.args.start in
     let goal = c.args.goal in

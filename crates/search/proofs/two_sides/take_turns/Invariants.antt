@@ -6,10 +6,10 @@ use Rattle.search.proofs.two_sides.take_turns.Given as goal
 
 abbrev pub invariant-loop : goal.invariant-loop
 invariant-loop g l =
-    Ready g.Cost.CostKind.kind (g.P.Plant.floor l.plant) l.goal l.rows l.queue
-    × Ready g.Cost.CostKind.kind (turned (g.P.Plant.floor l.plant)) l.start l.back l.back_queue
+    Ready g.P.Cost.CostKind.kind (g.P.Plant.floor l.plant) l.goal l.rows l.queue
+    × Ready g.P.Cost.CostKind.kind (turned (g.P.Plant.floor l.plant)) l.start l.back l.back_queue
     × (l.met.node < (g.P.Plant.floor l.plant).nodes)
     × ((x : g.row.P-Cost.Denot) × (
-    two_from g.Cost.CostKind.kind (g.P.Plant.floor l.plant) l.start l.goal (suc (2 * (g.P.Plant.floor l.plant).nodes) - 2 * l.counter) (both_of l.rows x l.back l.back_last l.met)
-    ≡ two_from g.Cost.CostKind.kind (g.P.Plant.floor l.plant) l.start l.goal (suc (2 * (g.P.Plant.floor l.plant).nodes)) (both_of l.initial.rows g.Cost.CostKind.kind.zero l.initial.back g.Cost.CostKind.kind.zero l.initial.met)
+    two_from g.P.Cost.CostKind.kind (g.P.Plant.floor l.plant) l.start l.goal (suc (2 * (g.P.Plant.floor l.plant).nodes) - 2 * l.counter) (both_of l.rows x l.back l.back_last l.met)
+    ≡ two_from g.P.Cost.CostKind.kind (g.P.Plant.floor l.plant) l.start l.goal (suc (2 * (g.P.Plant.floor l.plant).nodes)) (both_of l.initial.rows g.P.Cost.CostKind.kind.zero l.initial.back g.P.Cost.CostKind.kind.zero l.initial.met)
     ))

@@ -8,8 +8,8 @@ use Rattle.search.proofs.two_way.find_both.Goals as goal
 
 pub returns-then-at_most : goal.returns-then-at_most
 returns-then-at_most g c =
-    let k = g.Cost.CostKind.kind in
-    let laws = g.met.Cost.CostKind.lawful in
+    let k = g.P.Cost.CostKind.kind in
+    let laws = g.met.P.Cost.CostKind.lawful in
     let f = g.P.Plant.floor c.args.plant.now in
     let start = c.args.start in
     let goal = c.args.goal in
@@ -23,8 +23,8 @@ returns-then-at_most g c =
 
 pub write_both-nodes-requires : goal.write_both-nodes-requires
 write_both-nodes-requires g c =
-    let k = g.Cost.CostKind.kind in
-    let laws = g.met.Cost.CostKind.lawful in
+    let k = g.P.Cost.CostKind.kind in
+    let laws = g.met.P.Cost.CostKind.lawful in
     let f = g.P.Plant.floor c.args.plant.now in
     let start = c.args.start in
     let goal = c.args.goal in
@@ -45,8 +45,8 @@ write_both-nodes-requires g c =
 
 pub overflow_cast-nodes : goal.overflow_cast-nodes
 overflow_cast-nodes g c =
-    let k = g.Cost.CostKind.kind in
-    let laws = g.met.Cost.CostKind.lawful in
+    let k = g.P.Cost.CostKind.kind in
+    let laws = g.met.P.Cost.CostKind.lawful in
     let f = g.P.Plant.floor c.args.plant.now in
     let start = c.args.start in
     let goal = c.args.goal in
@@ -61,8 +61,8 @@ overflow_cast-nodes g c =
 
 pub returns : goal.returns
 returns g c =
-    let k = g.Cost.CostKind.kind in
-    let laws = g.met.Cost.CostKind.lawful in
+    let k = g.P.Cost.CostKind.kind in
+    let laws = g.met.P.Cost.CostKind.lawful in
     let f = g.P.Plant.floor c.args.plant.now in
     let start = c.args.start in
     let goal = c.args.goal in
