@@ -1,6 +1,6 @@
 -- How much room a plant's lists need, and how much there is.
 use Rattle.std.specs.Prelude.{ℕ, ◌+◌, ◌*◌, ◌≤◌, min, Bool, ◌&&◌, List, length, nat_le, nat_lt}
-use Rattle.std.specs.Borrow.{Bor}
+use Rattle.std.specs.Borrow.{MutBor}
 use Rattle.plants.specs.Columns.{Columns}
 use Rattle.format.specs.declared.counts.Counts.{Counts}
 use Rattle.format.specs.declared.counts.Space.{Space}
@@ -22,8 +22,8 @@ held l = record {
 -- the same lists when a call has returned, as a clause has them
 abbrev pub Lent : Type 0
 Lent =
-    Bor (List ℕ) × (Bor (List ℕ) × (Bor (List ℕ) × (Bor (List ℕ) ×
-    (Bor (List ℕ) × (Bor (List ℕ) × (Bor (List ℕ) × (Bor (List ℕ) × Unit {0})))))))
+    MutBor (List ℕ) × (MutBor (List ℕ) × (MutBor (List ℕ) × (MutBor (List ℕ) ×
+    (MutBor (List ℕ) × (MutBor (List ℕ) × (MutBor (List ℕ) × (MutBor (List ℕ) × Unit {0})))))))
 
 abbrev pub after : Lent → Columns
 after l = record {

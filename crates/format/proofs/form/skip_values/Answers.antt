@@ -8,20 +8,20 @@ use Rattle.format.proofs.form.skip_values.Goals as goal
 pub loop-init : goal.loop-init
 loop-init c ts h = let e : c.args.count ≡ c.args.count - 0 = omega arith in (ts, h, ap (λ n. passed (values n ts)) e)
 
-pub returns-in-err-taken : goal.returns-in-err-taken
-returns-in-err-taken c ts h =
+pub returns-in_err-taken : goal.returns-in_err-taken
+returns-in_err-taken c ts h =
     let i = c.loop.invariant ts h in
-    let v = none_number c.args.src.now (value i.0) (c.in-err-taken.ensures i.0 i.1) in
+    let v = none_number c.args.src.now (value i.0) (c.in_err-taken.ensures i.0 i.1) in
     let t = c.loop-test.true in
     let p = pass_none (c.args.count - c.loop.counter) (c.args.count - c.loop.counter - 1) i.0 (omega arith) v in
-    rw (c.from-residual.ensures, i.2, p) tt
+    rw (c.from_residual.ensures, i.2, p) tt
 
 pub loop-preserved : goal.loop-preserved
 loop-preserved c ts h =
     let i = c.loop.invariant ts h in
-    let v = some_number c.args.src.now (value i.0) c.in-ok-taken.taken (c.in-ok-taken.ensures i.0 i.1) in
+    let v = some_number c.args.src.now (value i.0) c.in_ok-taken.taken (c.in_ok-taken.ensures i.0 i.1) in
     let t = c.loop-test.true in
-    (v.ts, v.there, i.2 ∙ pass_more (c.args.count - c.loop.counter) (c.args.count - (c.loop.counter + 1)) c.in-ok-taken.taken.value i.0 v.ts (omega arith) v.is)
+    (v.ts, v.there, i.2 ∙ pass_more (c.args.count - c.loop.counter) (c.args.count - (c.loop.counter + 1)) c.in_ok-taken.taken.value i.0 v.ts (omega arith) v.is)
 
 pub returns : goal.returns
 returns c ts h =

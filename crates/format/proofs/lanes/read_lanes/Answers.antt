@@ -17,28 +17,28 @@ loop-k-init c = (
   },
 )
 
-pub returns-in-err-lane : goal.returns-in-err-lane
+pub returns-in_err-lane : goal.returns-in_err-lane
 unfolding lane_form
-returns-in-err-lane c =
-    let p = err_from_is_err_and c.from-residual.result c.from-residual.ensures.1 in
+returns-in_err-lane c =
+    let p = err_from_is_err_and c.from_residual.result c.from_residual.ensures.1 in
     rw (p.1, p.2)
     (read_lost lane_form c.args.src.now c.args.from c.loop-k.at c.args.count 2 c.loop-k.k _ c.loop-k.invariant.0 c.loop-k-test.true
-    (made_lost (λ (r : ℕ × ℕ × ℕ). record { tail = r.0; head = r.1; cost = r.2 }) (triple lane_word) (2 + c.loop-k.k) (drop c.loop-k.at c.args.src.now) _ c.in-err-lane.ensures))
+    (made_lost (λ (r : ℕ × ℕ × ℕ). record { tail = r.0; head = r.1; cost = r.2 }) (triple lane_word) (2 + c.loop-k.k) (drop c.loop-k.at c.args.src.now) _ c.in_err-lane.ensures))
 
 pub loop-k-preserved : goal.loop-k-preserved
 unfolding lane_form
 loop-k-preserved c =
     let r = c.loop-k.invariant.0 in
     let k = c.loop-k.invariant.1 in
-    let n = c.in-ok-lane.lane.numbers in
+    let n = c.in_ok-lane.lane.numbers in
     let a : Lane = record { tail = n.first; head = n.second; cost = n.third } in (
       record {
         xs = r.xs ++ (a ∷ []);
         long = push_long r.xs a c.loop-k.k r.long;
         is =
-            read_more lane_form c.args.src.now c.args.from c.loop-k.at c.in-ok-lane.lane.end c.args.count 2 c.loop-k.k a r c.loop-k-test.true
-            (made_got (λ (r : ℕ × ℕ × ℕ). record { tail = r.0; head = r.1; cost = r.2 }) (triple lane_word) (2 + c.loop-k.k) (drop c.loop-k.at c.args.src.now) (drop c.in-ok-lane.lane.end c.args.src.now)
-            (n.first, n.second, n.third) c.in-ok-lane.ensures);
+            read_more lane_form c.args.src.now c.args.from c.loop-k.at c.in_ok-lane.lane.end c.args.count 2 c.loop-k.k a r c.loop-k-test.true
+            (made_got (λ (r : ℕ × ℕ × ℕ). record { tail = r.0; head = r.1; cost = r.2 }) (triple lane_word) (2 + c.loop-k.k) (drop c.loop-k.at c.args.src.now) (drop c.in_ok-lane.lane.end c.args.src.now)
+            (n.first, n.second, n.third) c.in_ok-lane.ensures);
       },
       record {
         tails_kept =

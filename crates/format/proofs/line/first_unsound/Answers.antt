@@ -13,10 +13,10 @@ loop-at-init c = (omega arith, λ ts rest e. left_start c.args.src.now c.args.li
 pub returns-in-None : goal.returns-in-None
 returns-in-None c ts rest e = left_none c.args.src.now c.args.line.from c.loop-at.at ts rest (c.loop-at.invariant.1 ts rest e) c.in-None.ensures
 
-pub returns-then-not-is-sound : goal.returns-then-not-is-sound
-returns-then-not-is-sound c ts rest e =
+pub returns-then-not-is_sound : goal.returns-then-not-is_sound
+returns-then-not-is_sound c ts rest e =
     let t = c.in-Some.ensures in
-    let u = unsound_from (token_of c.in-Some.item.token) (sym c.if-not-is-sound.ensures) in
+    let u = unsound_from (token_of c.in-Some.item.token) (sym c.if-not-is_sound.ensures) in
     let byte = t.2 in
     let le = c.loop-at.invariant.0 in
     left_bad c.args.src.now c.args.line.from c.loop-at.at c.in-Some.item.byte ts rest u.0 (omega arith) (t.0 ∙ ap item u.1) u.2 (c.loop-at.invariant.1 ts rest e)
@@ -38,7 +38,7 @@ loop-at-preserved c =
       omega arith,
       λ ts rest e.
           left_next c.args.src.now c.args.line.from c.loop-at.at c.in-Some.item.end ts rest (token_of c.in-Some.item.token) le end t.0
-          (sound_from (token_of c.in-Some.item.token) (sym c.if-not-is-sound.ensures)) (c.loop-at.invariant.1 ts rest e),
+          (sound_from (token_of c.in-Some.item.token) (sym c.if-not-is_sound.ensures)) (c.loop-at.invariant.1 ts rest e),
     )
 
 pub returns : goal.returns

@@ -11,16 +11,16 @@ row_ends m nodes marks n h k =
     let o = one-mul nodes in
     omega arith
 
-pub fill-row-requires : goal.fill-row-requires
-fill-row-requires c =
+pub fill_row-requires : goal.fill_row-requires
+fill_row-requires c =
     let t = c.loop-m-test.true in
     let k = c.loop-m.auto.to in
     let p = c.requires.0 in
     let r = row_ends c.loop-m.m c.args.nodes (length c.args.marks.now) (length c.args.to.now) (omega arith) p in
     omega arith
 
-pub fill-row-requires-in-loop-m : goal.fill-row-requires-in-loop-m
-fill-row-requires-in-loop-m c =
+pub fill_row-requires-in-loop-m : goal.fill_row-requires-in-loop-m
+fill_row-requires-in-loop-m c =
     let t = c.loop-m-test.true in
     let k = c.loop-m.auto.from in
     let p = c.requires.1 in
@@ -35,9 +35,9 @@ loop-m-preserved c ms h =
     let i = c.loop-m.invariant ms h in
     let t = c.loop-m-test.true in
     let k = marks_nth c.args.nodes c.args.src.now ms c.args.marks.now _ c.loop-m.m h t in (
-      to_more c.args.nodes c.loop-m.m c.args.src.now ms c.args.marks.now _ c.args.to.now c.loop-m.to c.fill-row.new.rows k h (omega arith) i.0 (c.fill-row.ensures (to_row k.mark) k.here.0),
-      from_more c.args.nodes c.loop-m.m c.args.src.now ms c.args.marks.now _ c.args.from.now c.loop-m.from c.fill-row-in-loop-m.new.rows k h (omega arith) i.1
-          (c.fill-row-in-loop-m.ensures (from_row k.mark) k.here.1),
+      to_more c.args.nodes c.loop-m.m c.args.src.now ms c.args.marks.now _ c.args.to.now c.loop-m.to c.fill_row.new.rows k h (omega arith) i.0 (c.fill_row.ensures (to_row k.mark) k.here.0),
+      from_more c.args.nodes c.loop-m.m c.args.src.now ms c.args.marks.now _ c.args.from.now c.loop-m.from c.fill_row-in-loop-m.new.rows k h (omega arith) i.1
+          (c.fill_row-in-loop-m.ensures (from_row k.mark) k.here.1),
     )
 
 pub returns : goal.returns

@@ -8,28 +8,28 @@ use Rattle.format.proofs.marks.read_marks.Goals as goal
 pub loop-m-init : goal.loop-m-init
 loop-m-init c = (record { xs = []; long = refl; is = read_none (mark_form c.args.counts.nodes) (drop c.args.from c.args.src.now) c.args.counts.landmarks (2 + c.args.counts.lanes) }, λ _. tt)
 
-pub returns-in-err-read : goal.returns-in-err-read
-returns-in-err-read c =
-    let p = err_from_is_err_and c.from-residual.result c.from-residual.ensures.1 in
+pub returns-in_err-read : goal.returns-in_err-read
+returns-in_err-read c =
+    let p = err_from_is_err_and c.from_residual.result c.from_residual.ensures.1 in
     rw (p.1, p.2)
     (read_lost (mark_form c.args.counts.nodes) c.args.src.now c.args.from c.loop-m.at c.args.counts.landmarks (2 + c.args.counts.lanes) c.loop-m.m _ c.loop-m.invariant.0 c.loop-m-test.true
-    c.in-err-read.ensures)
+    c.in_err-read.ensures)
 
 pub loop-m-preserved : goal.loop-m-preserved
 loop-m-preserved c =
     let r = c.loop-m.invariant.0 in
-    let k = c.in-ok-read.ensures in
+    let k = c.in_ok-read.ensures in
     let m = k.0 in
-    let l : length (set c.loop-m.marks c.loop-m.m c.in-ok-read.read.mark) ≡ length c.loop-m.marks = length-set c.loop-m.marks c.loop-m.m c.in-ok-read.read.mark in (
+    let l : length (set c.loop-m.marks c.loop-m.m c.in_ok-read.read.mark) ≡ length c.loop-m.marks = length-set c.loop-m.marks c.loop-m.m c.in_ok-read.read.mark in (
       record {
         xs = r.xs ++ (m ∷ []);
         long = push_long r.xs m c.loop-m.m r.long;
         is =
-            read_more (mark_form c.args.counts.nodes) c.args.src.now c.args.from c.loop-m.at c.in-ok-read.read.end c.args.counts.landmarks (2 + c.args.counts.lanes) c.loop-m.m m r
+            read_more (mark_form c.args.counts.nodes) c.args.src.now c.args.from c.loop-m.at c.in_ok-read.read.end c.args.counts.landmarks (2 + c.args.counts.lanes) c.loop-m.m m r
             c.loop-m-test.true k.1;
       },
-      subst (MarksKept c.args.counts.nodes c.args.src.now (r.xs ++ (m ∷ []))) (sym c.keep-mark.ensures)
-          (λ h. marks_more c.args.counts.nodes c.args.src.now r.xs m c.in-ok-read.read.mark c.loop-m.marks c.loop-m.m r.long k.2 c.loop-m.invariant.1 h l),
+      subst (MarksKept c.args.counts.nodes c.args.src.now (r.xs ++ (m ∷ []))) (sym c.keep_mark.ensures)
+          (λ h. marks_more c.args.counts.nodes c.args.src.now r.xs m c.in_ok-read.read.mark c.loop-m.marks c.loop-m.m r.long k.2 c.loop-m.invariant.1 h l),
     )
 
 pub returns : goal.returns

@@ -4,66 +4,66 @@ use Rattle.format.specs.Items.{opens, says, closes, table, mark_word, to_word, f
 use Rattle.format.proofs.Taking.{some_past, none_past, some_table, none_table, all_left, all-taken}
 use Rattle.format.proofs.marks.take_mark.Goals as goal
 
-pub returns-in-err-opened : goal.returns-in-err-opened
+pub returns-in_err-opened : goal.returns-in_err-opened
 unfolding mark_form
-returns-in-err-opened c ts h =
-    let o = none_past c.args.src.now (opens ts) (c.in-err-opened.ensures ts h) in
-    rw (c.from-residual.ensures, o) tt
+returns-in_err-opened c ts h =
+    let o = none_past c.args.src.now (opens ts) (c.in_err-opened.ensures ts h) in
+    rw (c.from_residual.ensures, o) tt
 
-pub returns-in-err-said : goal.returns-in-err-said
+pub returns-in_err-said : goal.returns-in_err-said
 unfolding mark_form
-returns-in-err-said c ts h =
-    let o = some_past c.args.src.now (opens ts) c.in-ok-opened.opened (c.in-ok-opened.ensures ts h) in
-    let w = none_past c.args.src.now (says mark_word o.ts) (c.in-err-said.ensures o.ts o.there) in
-    rw (c.from-residual-in-err-said.ensures, o.is, w) tt
+returns-in_err-said c ts h =
+    let o = some_past c.args.src.now (opens ts) c.in_ok-opened.opened (c.in_ok-opened.ensures ts h) in
+    let w = none_past c.args.src.now (says mark_word o.ts) (c.in_err-said.ensures o.ts o.there) in
+    rw (c.from_residual-in_err-said.ensures, o.is, w) tt
 
-pub returns-in-err-to : goal.returns-in-err-to
+pub returns-in_err-to : goal.returns-in_err-to
 unfolding mark_form
-returns-in-err-to c ts h =
-    let o = some_past c.args.src.now (opens ts) c.in-ok-opened.opened (c.in-ok-opened.ensures ts h) in
-    let w = some_past c.args.src.now (says mark_word o.ts) c.in-ok-said.said (c.in-ok-said.ensures o.ts o.there) in
-    let x = none_table c.args.nodes c.args.src.now (table to_word c.args.nodes w.ts) (c.in-err-to.ensures w.ts w.there) in
-    rw (c.from-residual-in-err-to.ensures, o.is, w.is, x) tt
+returns-in_err-to c ts h =
+    let o = some_past c.args.src.now (opens ts) c.in_ok-opened.opened (c.in_ok-opened.ensures ts h) in
+    let w = some_past c.args.src.now (says mark_word o.ts) c.in_ok-said.said (c.in_ok-said.ensures o.ts o.there) in
+    let x = none_table c.args.nodes c.args.src.now (table to_word c.args.nodes w.ts) (c.in_err-to.ensures w.ts w.there) in
+    rw (c.from_residual-in_err-to.ensures, o.is, w.is, x) tt
 
-pub returns-in-err-from : goal.returns-in-err-from
+pub returns-in_err-from : goal.returns-in_err-from
 unfolding mark_form
-returns-in-err-from c ts h =
-    let o = some_past c.args.src.now (opens ts) c.in-ok-opened.opened (c.in-ok-opened.ensures ts h) in
-    let w = some_past c.args.src.now (says mark_word o.ts) c.in-ok-said.said (c.in-ok-said.ensures o.ts o.there) in
-    let x = some_table c.args.nodes c.args.src.now (table to_word c.args.nodes w.ts) c.in-ok-to.to (c.in-ok-to.ensures w.ts w.there) in
-    let y = none_table c.args.nodes c.args.src.now (table from_word c.args.nodes x.ts) (c.in-err-from.ensures x.ts x.there) in
-    rw (c.from-residual-in-err-from.ensures, o.is, w.is, x.is, y) tt
+returns-in_err-from c ts h =
+    let o = some_past c.args.src.now (opens ts) c.in_ok-opened.opened (c.in_ok-opened.ensures ts h) in
+    let w = some_past c.args.src.now (says mark_word o.ts) c.in_ok-said.said (c.in_ok-said.ensures o.ts o.there) in
+    let x = some_table c.args.nodes c.args.src.now (table to_word c.args.nodes w.ts) c.in_ok-to.to (c.in_ok-to.ensures w.ts w.there) in
+    let y = none_table c.args.nodes c.args.src.now (table from_word c.args.nodes x.ts) (c.in_err-from.ensures x.ts x.there) in
+    rw (c.from_residual-in_err-from.ensures, o.is, w.is, x.is, y) tt
 
-pub returns-in-err-end : goal.returns-in-err-end
+pub returns-in_err-end : goal.returns-in_err-end
 unfolding mark_form
-returns-in-err-end c ts h =
-    let o = some_past c.args.src.now (opens ts) c.in-ok-opened.opened (c.in-ok-opened.ensures ts h) in
-    let w = some_past c.args.src.now (says mark_word o.ts) c.in-ok-said.said (c.in-ok-said.ensures o.ts o.there) in
-    let x = some_table c.args.nodes c.args.src.now (table to_word c.args.nodes w.ts) c.in-ok-to.to (c.in-ok-to.ensures w.ts w.there) in
-    let y = some_table c.args.nodes c.args.src.now (table from_word c.args.nodes x.ts) c.in-ok-from.from (c.in-ok-from.ensures x.ts x.there) in
-    let e = none_past c.args.src.now (closes y.ts) (c.in-err-end.ensures y.ts y.there) in
-    rw (c.from-residual-in-err-end.ensures, o.is, w.is, x.is, y.is, e) tt
+returns-in_err-end c ts h =
+    let o = some_past c.args.src.now (opens ts) c.in_ok-opened.opened (c.in_ok-opened.ensures ts h) in
+    let w = some_past c.args.src.now (says mark_word o.ts) c.in_ok-said.said (c.in_ok-said.ensures o.ts o.there) in
+    let x = some_table c.args.nodes c.args.src.now (table to_word c.args.nodes w.ts) c.in_ok-to.to (c.in_ok-to.ensures w.ts w.there) in
+    let y = some_table c.args.nodes c.args.src.now (table from_word c.args.nodes x.ts) c.in_ok-from.from (c.in_ok-from.ensures x.ts x.there) in
+    let e = none_past c.args.src.now (closes y.ts) (c.in_err-end.ensures y.ts y.there) in
+    rw (c.from_residual-in_err-end.ensures, o.is, w.is, x.is, y.is, e) tt
 
-pub returns-then-not-is-over : goal.returns-then-not-is-over
+pub returns-then-not-is_over : goal.returns-then-not-is_over
 unfolding mark_form
-returns-then-not-is-over c ts h =
-    let o = some_past c.args.src.now (opens ts) c.in-ok-opened.opened (c.in-ok-opened.ensures ts h) in
-    let w = some_past c.args.src.now (says mark_word o.ts) c.in-ok-said.said (c.in-ok-said.ensures o.ts o.there) in
-    let x = some_table c.args.nodes c.args.src.now (table to_word c.args.nodes w.ts) c.in-ok-to.to (c.in-ok-to.ensures w.ts w.there) in
-    let y = some_table c.args.nodes c.args.src.now (table from_word c.args.nodes x.ts) c.in-ok-from.from (c.in-ok-from.ensures x.ts x.there) in
-    let e = some_past c.args.src.now (closes y.ts) c.in-ok-end.end (c.in-ok-end.ensures y.ts y.there) in
+returns-then-not-is_over c ts h =
+    let o = some_past c.args.src.now (opens ts) c.in_ok-opened.opened (c.in_ok-opened.ensures ts h) in
+    let w = some_past c.args.src.now (says mark_word o.ts) c.in_ok-said.said (c.in_ok-said.ensures o.ts o.there) in
+    let x = some_table c.args.nodes c.args.src.now (table to_word c.args.nodes w.ts) c.in_ok-to.to (c.in_ok-to.ensures w.ts w.there) in
+    let y = some_table c.args.nodes c.args.src.now (table from_word c.args.nodes x.ts) c.in_ok-from.from (c.in_ok-from.ensures x.ts x.there) in
+    let e = some_past c.args.src.now (closes y.ts) c.in_ok-end.end (c.in_ok-end.ensures y.ts y.there) in
     let m : Mark = record { to = x.xs; from = y.xs } in
-    let left = all_left m e.ts (λ q. let b : false ≡ true = (c.if-not-is-over.ensures e.ts e.there).1 q in let z : ◌≡◌ {A = ℕ} 0 1 = cc in omega arith) in
+    let left = all_left m e.ts (λ q. let b : false ≡ true = (c.if-not-is_over.ensures e.ts e.there).1 q in let z : ◌≡◌ {A = ℕ} 0 1 = cc in omega arith) in
     rw (o.is, w.is, x.is, y.is, e.is, left) tt
 
 pub returns : goal.returns
 unfolding mark_form
 returns c ts h =
-    let o = some_past c.args.src.now (opens ts) c.in-ok-opened.opened (c.in-ok-opened.ensures ts h) in
-    let w = some_past c.args.src.now (says mark_word o.ts) c.in-ok-said.said (c.in-ok-said.ensures o.ts o.there) in
-    let x = some_table c.args.nodes c.args.src.now (table to_word c.args.nodes w.ts) c.in-ok-to.to (c.in-ok-to.ensures w.ts w.there) in
-    let y = some_table c.args.nodes c.args.src.now (table from_word c.args.nodes x.ts) c.in-ok-from.from (c.in-ok-from.ensures x.ts x.there) in
-    let e = some_past c.args.src.now (closes y.ts) c.in-ok-end.end (c.in-ok-end.ensures y.ts y.there) in
+    let o = some_past c.args.src.now (opens ts) c.in_ok-opened.opened (c.in_ok-opened.ensures ts h) in
+    let w = some_past c.args.src.now (says mark_word o.ts) c.in_ok-said.said (c.in_ok-said.ensures o.ts o.there) in
+    let x = some_table c.args.nodes c.args.src.now (table to_word c.args.nodes w.ts) c.in_ok-to.to (c.in_ok-to.ensures w.ts w.there) in
+    let y = some_table c.args.nodes c.args.src.now (table from_word c.args.nodes x.ts) c.in_ok-from.from (c.in_ok-from.ensures x.ts x.there) in
+    let e = some_past c.args.src.now (closes y.ts) c.in_ok-end.end (c.in_ok-end.ensures y.ts y.there) in
     let m : Mark = record { to = x.xs; from = y.xs } in
-    let taken = all-taken m e.ts ((c.if-not-is-over.ensures e.ts e.there).0 refl) in
+    let taken = all-taken m e.ts ((c.if-not-is_over.ensures e.ts e.there).0 refl) in
     rw (o.is, w.is, x.is, y.is, e.is, taken) (x.stand, y.stand)

@@ -3,16 +3,16 @@ use Rattle.format.specs.Form.{letters, belongs}
 use Rattle.format.proofs.RunEnds.{front_more, front_halt, front_none}
 use Rattle.format.proofs.next.word_end.Goals as goal
 
-pub returns-then-not-is-letter : goal.returns-then-not-is-letter
-returns-then-not-is-letter c =
+pub returns-then-not-is_letter : goal.returns-then-not-is_letter
+returns-then-not-is_letter c =
     let i = c.loop-to.invariant in
-    let e = front_halt letters c.args.src.now c.loop-to.to c.loop-to-test.true (sym c.if-not-is-letter.ensures) in
+    let e = front_halt letters c.args.src.now c.loop-to.to c.loop-to-test.true (sym c.if-not-is_letter.ensures) in
     omega arith
 
 pub loop-to-preserved : goal.loop-to-preserved
 loop-to-preserved c =
     let i = c.loop-to.invariant in
-    let e = front_more letters c.args.src.now c.loop-to.to c.loop-to-test.true (sym c.if-not-is-letter.ensures) in
+    let e = front_more letters c.args.src.now c.loop-to.to c.loop-to-test.true (sym c.if-not-is_letter.ensures) in
     omega arith
 
 pub returns : goal.returns

@@ -6,13 +6,13 @@ use Rattle.format.proofs.number.number.Goals as goal
 
 pub returns-then-n-gt4294967294 : goal.returns-then-n-gt4294967294
 returns-then-n-gt4294967294 c =
-    let e = reads_next c.args.text.now c.loop-i.i c.loop-i.n c.saturating-sub.result c.loop-i-test.true c.saturating-sub.ensures c.loop-i.invariant.1 in
-    let ge = reads_ge (drop (c.loop-i.i + 1) c.args.text.now) (10 * c.loop-i.n + c.saturating-sub.result) in
+    let e = reads_next c.args.text.now c.loop-i.i c.loop-i.n c.saturating_sub.result c.loop-i-test.true c.saturating_sub.ensures c.loop-i.invariant.1 in
+    let ge = reads_ge (drop (c.loop-i.i + 1) c.args.text.now) (10 * c.loop-i.n + c.saturating_sub.result) in
     numeral_large c.args.text.now (omega arith)
 
 pub loop-i-preserved : goal.loop-i-preserved
 loop-i-preserved c =
-    (c.if-n-gt4294967294.false, reads_next c.args.text.now c.loop-i.i c.loop-i.n c.saturating-sub.result c.loop-i-test.true c.saturating-sub.ensures c.loop-i.invariant.1)
+    (c.if-n-gt4294967294.false, reads_next c.args.text.now c.loop-i.i c.loop-i.n c.saturating_sub.result c.loop-i-test.true c.saturating_sub.ensures c.loop-i.invariant.1)
 
 pub returns : goal.returns
 returns c =

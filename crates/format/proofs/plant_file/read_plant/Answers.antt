@@ -8,65 +8,65 @@ use Rattle.format.specs.Space.{held, space_of, room_for}
 use Rattle.format.proofs.Answered.{counts_refused, counts_kept, sized_counts, sized_room, refuses_line, placed_fault, placed_none, refuses_counts, refuses_short, refuses_found, few_lanes, few_marks, kept_marks, kept_column, written_for, tables_for}
 use Rattle.format.proofs.plant_file.read_plant.Goals as goal
 
-pub returns-in-err-read : goal.returns-in-err-read
-returns-in-err-read c =
-    let e = err_from_is_err_and c.from-residual.result c.from-residual.ensures.1 in
-    rw (e.1, e.2) (refuses_line (room_of c.args.room (held c.args.lists)) c.args.text.now _ c.in-err-read.ensures, refl)
+pub returns-in_err-read : goal.returns-in_err-read
+returns-in_err-read c =
+    let e = err_from_is_err_and c.from_residual.result c.from_residual.ensures.1 in
+    rw (e.1, e.2) (refuses_line (room_of c.args.room (held c.args.lists)) c.args.text.now _ c.in_err-read.ensures, refl)
 
-pub returns-in-err-with-lanes : goal.returns-in-err-with-lanes
-returns-in-err-with-lanes c =
-    let k = c.in-ok-read.ensures in
+pub returns-in_err-with_lanes : goal.returns-in_err-with_lanes
+returns-in_err-with_lanes c =
+    let k = c.in_ok-read.ensures in
     let p = k.0 in
-    let counts = c.in-ok-read.read.counts in
-    let e = err_from_is_err_and c.from-residual-in-err-with-lanes.result c.from-residual-in-err-with-lanes.ensures.1 in
-    let q = placed_fault counts.lanes c.check-counts.result _ c.in-err-with-lanes.ensures in
-    let f = counts_refused (counts_fit counts.nodes counts.lanes counts.landmarks) _ (rw q.0 at c.check-counts.ensures) in
-    rw (e.1, e.2) (refuses_counts (room_of c.args.room (held c.args.lists)) c.args.text.now (drop c.in-ok-read.read.end c.args.text.now) p _ k.1 (sized_counts p counts k.2 ∙ f.1) f.0, refl)
+    let counts = c.in_ok-read.read.counts in
+    let e = err_from_is_err_and c.from_residual-in_err-with_lanes.result c.from_residual-in_err-with_lanes.ensures.1 in
+    let q = placed_fault counts.lanes c.check_counts.result _ c.in_err-with_lanes.ensures in
+    let f = counts_refused (counts_fit counts.nodes counts.lanes counts.landmarks) _ (rw q.0 at c.check_counts.ensures) in
+    rw (e.1, e.2) (refuses_counts (room_of c.args.room (held c.args.lists)) c.args.text.now (drop c.in_ok-read.read.end c.args.text.now) p _ k.1 (sized_counts p counts k.2 ∙ f.1) f.0, refl)
 
-pub returns-in-err-check-room : goal.returns-in-err-check-room
-returns-in-err-check-room c =
-    let k = c.in-ok-read.ensures in
+pub returns-in_err-check_room : goal.returns-in_err-check_room
+returns-in_err-check_room c =
+    let k = c.in_ok-read.ensures in
     let p = k.0 in
-    let counts = c.in-ok-read.read.counts in
-    let ok = placed_none counts.lanes c.check-counts.result _ c.in-ok-with-lanes.ensures in
-    let fit : counts_fit counts.nodes counts.lanes counts.landmarks ≡ true = counts_kept _ (rw ok at c.check-counts.ensures) in
-    let e = err_from_is_err_and c.from-residual-in-err-check-room.result c.from-residual-in-err-check-room.ensures.1 in
-    let f = c.in-err-check-room.ensures in
+    let counts = c.in_ok-read.read.counts in
+    let ok = placed_none counts.lanes c.check_counts.result _ c.in_ok-with_lanes.ensures in
+    let fit : counts_fit counts.nodes counts.lanes counts.landmarks ≡ true = counts_kept _ (rw ok at c.check_counts.ensures) in
+    let e = err_from_is_err_and c.from_residual-in_err-check_room.result c.from_residual-in_err-check_room.ensures.1 in
+    let f = c.in_err-check_room.ensures in
     rw (e.1, e.2) (
-      refuses_short (room_of c.args.room (held c.args.lists)) c.args.text.now (drop c.in-ok-read.read.end c.args.text.now) p _ k.1 (sized_counts p counts k.2 ∙ fit)
+      refuses_short (room_of c.args.room (held c.args.lists)) c.args.text.now (drop c.in_ok-read.read.end c.args.text.now) p _ k.1 (sized_counts p counts k.2 ∙ fit)
           (sized_room p counts c.args.room (held c.args.lists) k.2 ∙ (ap (λ s. room_for counts c.args.room s) (sym c.space-space.ensures) ∙ f.1)) f.0,
       refl,
     )
 
-pub returns-in-err-with-lanes-2 : goal.returns-in-err-with-lanes-2
-returns-in-err-with-lanes-2 c =
-    let k = c.in-ok-read.ensures in
+pub returns-in_err-with_lanes-2 : goal.returns-in_err-with_lanes-2
+returns-in_err-with_lanes-2 c =
+    let k = c.in_ok-read.ensures in
     let p = k.0 in
-    let counts = c.in-ok-read.read.counts in
-    let ok = placed_none counts.lanes c.check-counts.result _ c.in-ok-with-lanes.ensures in
-    let fit : counts_fit counts.nodes counts.lanes counts.landmarks ≡ true = counts_kept _ (rw ok at c.check-counts.ensures) in
-    let has = sized_room p counts c.args.room (held c.args.lists) k.2 ∙ (ap (λ s. room_for counts c.args.room s) (sym c.space-space.ensures) ∙ c.in-ok-check-room.ensures) in
-    let roomy : Roomy (room_of c.args.room (held c.args.lists)) c.args.text.now (drop c.in-ok-read.read.end c.args.text.now) p = record { read_as = k.1; counted = sized_counts p counts k.2 ∙ fit; has = has } in
-    let e = err_from_is_err_and c.from-residual-in-err-with-lanes-2.result c.from-residual-in-err-with-lanes-2.ensures.1 in
-    let q = placed_fault counts.lanes c.settle.result _ c.in-err-with-lanes-2.ensures in
+    let counts = c.in_ok-read.read.counts in
+    let ok = placed_none counts.lanes c.check_counts.result _ c.in_ok-with_lanes.ensures in
+    let fit : counts_fit counts.nodes counts.lanes counts.landmarks ≡ true = counts_kept _ (rw ok at c.check_counts.ensures) in
+    let has = sized_room p counts c.args.room (held c.args.lists) k.2 ∙ (ap (λ s. room_for counts c.args.room s) (sym c.space-space.ensures) ∙ c.in_ok-check_room.ensures) in
+    let roomy : Roomy (room_of c.args.room (held c.args.lists)) c.args.text.now (drop c.in_ok-read.read.end c.args.text.now) p = record { read_as = k.1; counted = sized_counts p counts k.2 ∙ fit; has = has } in
+    let e = err_from_is_err_and c.from_residual-in_err-with_lanes-2.result c.from_residual-in_err-with_lanes-2.ensures.1 in
+    let q = placed_fault counts.lanes c.settle.result _ c.in_err-with_lanes-2.ensures in
     let f = rw q.0 at c.settle.ensures in
-    rw (e.1, e.2) (refuses_found (room_of c.args.room (held c.args.lists)) c.args.text.now (drop c.in-ok-read.read.end c.args.text.now) p _ roomy (q.1 ∙ sym k.2.lanes), f)
+    rw (e.1, e.2) (refuses_found (room_of c.args.room (held c.args.lists)) c.args.text.now (drop c.in_ok-read.read.end c.args.text.now) p _ roomy (q.1 ∙ sym k.2.lanes), f)
 
 pub returns : goal.returns
 returns c =
-    let k = c.in-ok-read.ensures in
+    let k = c.in_ok-read.ensures in
     let p = k.0 in
-    let counts = c.in-ok-read.read.counts in
-    let ok = placed_none counts.lanes c.check-counts.result _ c.in-ok-with-lanes.ensures in
-    let fit : counts_fit counts.nodes counts.lanes counts.landmarks ≡ true = counts_kept _ (rw ok at c.check-counts.ensures) in
-    let has = sized_room p counts c.args.room (held c.args.lists) k.2 ∙ (ap (λ s. room_for counts c.args.room s) (sym c.space-space.ensures) ∙ c.in-ok-check-room.ensures) in
-    let roomy : Roomy (room_of c.args.room (held c.args.lists)) c.args.text.now (drop c.in-ok-read.read.end c.args.text.now) p = record { read_as = k.1; counted = sized_counts p counts k.2 ∙ fit; has = has } in
-    let q = placed_none counts.lanes c.settle.result _ c.in-ok-with-lanes-2.ensures in
+    let counts = c.in_ok-read.read.counts in
+    let ok = placed_none counts.lanes c.check_counts.result _ c.in_ok-with_lanes.ensures in
+    let fit : counts_fit counts.nodes counts.lanes counts.landmarks ≡ true = counts_kept _ (rw ok at c.check_counts.ensures) in
+    let has = sized_room p counts c.args.room (held c.args.lists) k.2 ∙ (ap (λ s. room_for counts c.args.room s) (sym c.space-space.ensures) ∙ c.in_ok-check_room.ensures) in
+    let roomy : Roomy (room_of c.args.room (held c.args.lists)) c.args.text.now (drop c.in_ok-read.read.end c.args.text.now) p = record { read_as = k.1; counted = sized_counts p counts k.2 ∙ fit; has = has } in
+    let q = placed_none counts.lanes c.settle.result _ c.in_ok-with_lanes-2.ensures in
     let w = rw q at c.settle.ensures in
     let few = few_lanes counts.nodes counts.lanes counts.landmarks fit in
     let some = few_marks counts.nodes counts.lanes counts.landmarks fit in
-    let sixteen : length c.read-lines.new.marks ≡ 16 = c.read-lines.auto.marks in
-    let room : counts.landmarks ≤ length c.read-lines.new.marks = omega arith in
+    let sixteen : length c.read_lines.new.marks ≡ 16 = c.read_lines.auto.marks in
+    let room : counts.landmarks ≤ length c.read_lines.new.marks = omega arith in
     let zeros : List ℕ = replicate 16384 0 in
     let long : counts.lanes ≤ length zeros = simp length-replicate few in
     record {
