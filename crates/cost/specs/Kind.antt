@@ -1,5 +1,5 @@
 -- A cost kind: its operations, and the laws that the router rests on.
-use Rattle.std.specs.Prelude.{◌≡◌, Bool, true, false, ◌⊎◌}
+use Rattle.std.specs.Prelude.{◌≡◌, Bool, true, ◌⊎◌}
 
 pub record Kind (C : Type 0) : Type 0 where
   pub zero : C

@@ -1,14 +1,13 @@
 -- What the writer writes of a lawful plant is read back as that plant, whatever stands behind it.
-use Rattle.std.proofs.Common.{◌≡◌, ℕ, suc, ◌+◌, ◌<◌, ◌≤◌, true, false, List, [], ◌∷◌, ◌++◌, length, sym, refl, ap, ◌∙◌, subst, append_assoc, arith}
+use Rattle.std.proofs.Common.{◌≡◌, ℕ, suc, ◌+◌, ◌≤◌, true, false, List, [], ◌∷◌, ◌++◌, length, refl, append_assoc, arith}
 use Rattle.std.specs.List.{AllByRecursion as All}
-use Rattle.format.specs.Plain.{Lane, Mark, Plain, Lawful, beyond, Table, EndsFrom}
+use Rattle.format.specs.Plain.{Lane, Mark, Plain, Lawful, Table, EndsFrom}
 use Rattle.format.specs.Written.{plant_line, lane_line, mark_line, texts, written}
-use Rattle.format.specs.Form.{letters, Token, begin, line, scan, belongs}
-use Rattle.format.specs.Items.{Took, took, all, Counts, plant_form, lane_form, mark_form, plant_word, lane_word}
-use Rattle.format.specs.Turns.{Got, got, tokens, form, forms, lines}
+use Rattle.format.specs.Form.{Token, begin, belongs}
+use Rattle.format.specs.Items.{Took, took, Counts, plant_form, lane_form, mark_form, plant_word, lane_word}
+use Rattle.format.specs.Turns.{got, tokens, form, forms, lines}
 use Rattle.format.specs.Checks.{Room, has_room}
 use Rattle.format.specs.Read.{read}
-use Rattle.format.proofs.Numbers.{Run}
 use Rattle.format.proofs.Sounds.{Sound, sound_none}
 use Rattle.format.proofs.Scans.{Scans}
 use Rattle.format.proofs.Lines.{plant_spelled, lane_spelled, mark_spelled, scans_triple, scans_mark}

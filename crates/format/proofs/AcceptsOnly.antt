@@ -1,18 +1,18 @@
 -- What is read as a plant is what the writer writes of it, and the plant is lawful.
-use Rattle.std.proofs.Common.{◌≡◌, ℕ, zero, suc, ◌+◌, ◌<◌, ◌≤◌, true, false, List, [], ◌∷◌, ◌++◌, length, Some, None, Option, sym, refl, ap, ◌∙◌, subst, subst₂, append_assoc, arith}
+use Rattle.std.proofs.Common.{◌≡◌, ℕ, zero, suc, ◌+◌, true, false, List, [], ◌∷◌, ◌++◌, length, Some, None, Option, sym, refl, ap, ◌∙◌, subst₂, append_assoc, arith}
 use Rattle.std.specs.List.{AllByRecursion as All}
 use Rattle.format.specs.Plain.{Lane, Mark, Plain, Lawful, Table}
 use Rattle.format.specs.Written.{plant_line, lane_line, mark_line, texts, written}
 use Rattle.format.specs.Form.{Token, begin, Scanned, line, unfit, scan}
-use Rattle.format.specs.Items.{Took, took, all, unsound, Counts, plant_form, lane_form, mark_form, plant_word, lane_word}
+use Rattle.format.specs.Items.{Took, all, unsound, Counts, plant_form, lane_form, mark_form}
 use Rattle.format.specs.Turns.{Fault, Got, got, lost, on, or_13, or_14, or_15, tokens, form, forms, lines}
 use Rattle.format.specs.Checks.{Room, has_room, tested}
 use Rattle.format.specs.Read.{unless, read}
 use Rattle.format.proofs.Spelled.{Good, spelled, scanned_only}
 use Rattle.format.proofs.Sounds.{Sound, none_sound}
-use Rattle.format.proofs.Lines.{plant_spelled, lane_spelled, mark_spelled, triple-tokens, mark-tokens}
-use Rattle.format.proofs.TakesOnly.{Fair, IsPlant, plant_only, IsLane, lane_only, IsMark, mark_only}
-use Rattle.format.proofs.Tested.{Passes, none_passes}
+use Rattle.format.proofs.Lines.{plant_spelled, lane_spelled, mark_spelled}
+use Rattle.format.proofs.TakesOnly.{Fair, plant_only, lane_only, mark_only}
+use Rattle.format.proofs.Tested.{none_passes}
 
 record Parts {A B : Type 0} (x : Got A) (f : A → List ℕ → Got B) (b : B) (r : List ℕ) : Type 0 where
   mid : A

@@ -5,7 +5,7 @@ use Rattle.std.proofs.lemmas.Bool.{and_parts, leb-true}
 use Rattle.plants.specs.Columns.{Columns}
 use Rattle.plants.specs.Faults.{counts_fit}
 use Rattle.plants.specs.declared.fault.PlantFault.{PlantFault}
-use Rattle.plants.specs.declared.fault.PlantFault.TheVariants.{Counts as OfCounts, Lengths, Ends, Cost, Index, Table}
+use Rattle.plants.specs.declared.fault.PlantFault.TheVariants.{Counts as OfCounts}
 use Rattle.format.specs.declared.counts.Counts.{Counts}
 use Rattle.format.specs.declared.marks.Mark.{Mark as MarkPlace}
 use Rattle.format.specs.declared.fault.Placed.{Placed}
@@ -15,7 +15,7 @@ use Rattle.format.specs.Plain.{Lane, Mark, Plain}
 use Rattle.format.specs.Checks.{Room, has_room, has_counts, tested}
 use Rattle.format.specs.Faults.{line_of, told, with_lanes, read_fault}
 use Rattle.format.specs.Read.{read}
-use Rattle.format.specs.Reader.{room_of, Roomy, Found, RefusesPlant, Refuses, Written, TablesWritten}
+use Rattle.format.specs.Reader.{room_of, Roomy, RefusesPlant, Refuses, Written, TablesWritten}
 use Rattle.format.specs.Reads.{Sized, Begins, MarksAt, MarksKept}
 use Rattle.format.specs.Space.{room_for, space_of}
 use Rattle.format.specs.Turns.{Fault, got, lost, lines}

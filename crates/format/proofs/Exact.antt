@@ -2,7 +2,7 @@
 use Rattle.std.proofs.Common.{◌≡◌, ℕ, true, ◌↔◌, List, ◌++◌, sym, refl, ◌∙◌, subst}
 use Rattle.format.specs.Plain.{Plain, Lawful}
 use Rattle.format.specs.Written.{written}
-use Rattle.format.specs.Turns.{Got, got}
+use Rattle.format.specs.Turns.{got}
 use Rattle.format.specs.Checks.{Room, has_room}
 use Rattle.format.specs.Read.{read}
 use Rattle.format.proofs.Accepts.{written_is_read}

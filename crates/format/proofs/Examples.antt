@@ -1,9 +1,9 @@
 -- Reading computes: the small floor is read, and refusals name their places.
-use Rattle.std.proofs.Common.{◌≡◌, ℕ, Bool, true, ◌&&◌, leb, List, [], ◌∷◌, ◌++◌, codes, refl}
-use Rattle.format.specs.Plain.{Plain, Lane, Mark, Lawful}
+use Rattle.std.proofs.Common.{◌≡◌, ℕ, true, ◌&&◌, leb, List, [], ◌∷◌, ◌++◌, codes, refl}
+use Rattle.format.specs.Plain.{Plain, Lane, Lawful}
 use Rattle.format.specs.Form.{scan, belongs}
 use Rattle.format.specs.Items.{unsound, values, triple, table, plant_form, lane_form, mark_form}
-use Rattle.format.specs.Turns.{Fault, Got, got, lost, tokens, form, forms, lines}
+use Rattle.format.specs.Turns.{Got, got, lost, tokens, form, forms, lines}
 use Rattle.format.specs.Checks.{loose, failing, contradicted, Room, tested}
 use Rattle.format.specs.Read.{read}
 use Rattle.format.specs.Written.{written}

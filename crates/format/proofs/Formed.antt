@@ -1,9 +1,9 @@
 -- A line's answer from its walk and the test of its numbers.
-use Rattle.std.proofs.Common.{◌≡◌, ℕ, Bool, true, false, List, [], ◌∷◌, Some, None, Option, sym, refl, ap, ◌∙◌, subst, arith}
+use Rattle.std.proofs.Common.{◌≡◌, ℕ, false, List, Some, None, refl, ap, ◌∙◌, arith}
 use Rattle.format.specs.Form.{Token, begin, Scanned, line, unfit, scan}
 use Rattle.format.specs.Items.{Took, unsound, all}
 use Rattle.format.specs.Turns.{Fault, got, lost, tokens, form}
-use Rattle.format.specs.Walk.{Walked, ends, off, line_walk}
+use Rattle.format.specs.Walk.{ends, off, line_walk}
 use Rattle.format.proofs.Walks.{stripped, walk_is_scan}
 
 pub no_form : (n : ℕ) (t : List ℕ) (b : ℕ) → line_walk t ≡ off b → tokens n t ≡ lost (record { number = 13; first = n; second = b; at = 0 })

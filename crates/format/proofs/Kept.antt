@@ -1,8 +1,8 @@
 -- Lines that are read one after another, and what is kept of them.
-use Rattle.std.proofs.Common.{◌≡◌, ℕ, zero, suc, ◌+◌, ◌-◌, ◌<◌, ◌≤◌, List, [], ◌∷◌, ◌++◌, map, length, take, drop, set, Some, None, Option, sym, refl, ap, ◌∙◌, subst, append_assoc, arith, length-append}
+use Rattle.std.proofs.Common.{◌≡◌, ℕ, suc, ◌+◌, ◌-◌, ◌<◌, ◌≤◌, List, [], ◌∷◌, ◌++◌, map, length, take, drop, set, sym, refl, ap, ◌∙◌, subst, append_assoc, arith, length-append}
 use Rattle.std.proofs.lemmas.List.{append-nil, map-append, length-map, drop_more, set_at, take_more_set}
 use Rattle.format.specs.declared.marks.Mark.{Mark as MarkPlace}
-use Rattle.format.specs.Plain.{Lane, Mark}
+use Rattle.format.specs.Plain.{Mark}
 use Rattle.format.specs.Form.{Token}
 use Rattle.format.specs.Items.{Took, took, other, then, all}
 use Rattle.format.specs.Turns.{Fault, Got, got, lost, on, or_14, tokens, form, forms}

@@ -1,8 +1,8 @@
 -- The tokens of a line come one after another.
-use Rattle.std.proofs.Common.{◌≡◌, ℕ, suc, ◌+◌, ◌<◌, ◌≤◌, Bool, true, false, cond, ◌&&◌, eqb, leb, List, [], ◌∷◌, ◌++◌, length, drop, sym, refl, ap, ◌∙◌, subst, arith}
+use Rattle.std.proofs.Common.{◌≡◌, ℕ, ◌<◌, Bool, true, false, eqb, leb, List, [], ◌∷◌, ◌++◌, length, drop, refl, ap, ◌∙◌, arith}
 use Rattle.std.proofs.lemmas.Bool.{leb-true, and_parts, ne_eqb, cond-true, cond-false}
 use Rattle.format.specs.Form.{Kind, letters, digits, Token, opened, closed, hyphen, run, belongs}
-use Rattle.format.specs.Lex.{front, Lexed, item, over, lex_item, lex, gap, width}
+use Rattle.format.specs.Lex.{front, item, over, lex_item, lex, gap, width}
 use Rattle.format.proofs.Numbers.{Run}
 use Rattle.format.proofs.Spelled.{space, spelled, Good}
 use Rattle.format.proofs.Scans.{digit_no_letter}

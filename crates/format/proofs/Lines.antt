@@ -1,12 +1,12 @@
 -- The tokens of the writer's lines: they spell the lines, and the lines are scanned to them.
-use Rattle.std.proofs.Common.{◌≡◌, ℕ, zero, suc, ◌+◌, ◌<◌, ◌≤◌, Bool, true, false, cond, ◌&&◌, eqb, List, [], ◌∷◌, ◌++◌, length, decimal, sym, refl, ap, ◌∙◌, subst, ap₂, subst₂, append_assoc, arith}
+use Rattle.std.proofs.Common.{◌≡◌, ℕ, ◌<◌, ◌≤◌, Bool, true, false, cond, eqb, List, [], ◌∷◌, ◌++◌, length, decimal, sym, refl, ap, ◌∙◌, append_assoc, arith}
 use Rattle.std.specs.List.{AllByRecursion as All}
 use Rattle.std.proofs.lemmas.Bool.{cond_both, eqb-false}
 use Rattle.format.specs.Plain.{Lane, Mark, beyond}
 use Rattle.format.specs.Written.{value_text, values_text, plant_line, lane_line, mark_line}
 use Rattle.format.specs.Form.{Kind, letters, digits, Token, opened, closed, hyphen, run, outer, nested, begin, need, past, within, belongs}
 use Rattle.format.specs.Items.{plant_word, lane_word, mark_word, to_word, from_word}
-use Rattle.format.proofs.Numbers.{Run, Number, number_of}
+use Rattle.format.proofs.Numbers.{Run, number_of}
 use Rattle.format.proofs.Spelled.{spelled}
 use Rattle.format.proofs.Scans.{Scans, scans_run, run_space, run_close, scans_hyphen, scans_space, scans_close, scans_open, scans_nested, scans_end}
 

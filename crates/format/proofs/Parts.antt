@@ -1,6 +1,6 @@
 -- A plant file's lines from its three parts.
-use Rattle.std.proofs.Common.{◌≡◌, ℕ, ◌+◌, List, sym, refl, ap, ◌∙◌, subst}
-use Rattle.format.specs.Plain.{Lane, Mark, Plain}
+use Rattle.std.proofs.Common.{◌≡◌, ℕ, ◌+◌, List}
+use Rattle.format.specs.Plain.{Lane, Mark}
 use Rattle.format.specs.Items.{Counts, plant_form, lane_form, mark_form}
 use Rattle.format.specs.Turns.{Fault, got, lost, form, forms, lines}
 

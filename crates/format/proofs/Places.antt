@@ -1,10 +1,8 @@
 -- Tokens at a place of the text.
-use Rattle.std.proofs.Common.{◌≡◌, ℕ, ◌+◌, Bool, true, false, List, [], ◌∷◌, drop, Some, None, Option, sym, refl, ap, ◌∙◌, subst, arith, drop-drop}
+use Rattle.std.proofs.Common.{◌≡◌, ℕ, ◌+◌, Bool, true, false, List, [], ◌∷◌, drop, Some, None, sym, refl, ap, ◌∙◌, subst, arith, drop-drop}
 use Rattle.std.specs.List.{AllByRecursion as All}
-use Rattle.format.specs.declared.token.Token.{Token as Written}
-use Rattle.format.specs.declared.token.Token.TheVariants.{Open, Close, Hyphen, Word, Number}
 use Rattle.format.specs.Form.{Token, opened, closed, hyphen, run, letters, digits, begin, line, scan}
-use Rattle.format.specs.Items.{sound, sound_token, unsound, Took, took, other}
+use Rattle.format.specs.Items.{sound_token, unsound, Took, took, other}
 use Rattle.format.specs.Lex.{item, over, lex, gap, width}
 use Rattle.format.specs.Places.{TokensAt, Agrees}
 use Rattle.format.proofs.Spelled.{spelled, Good, scanned_only}

@@ -1,9 +1,9 @@
 -- Runs and tokens at a place of the text.
-use Rattle.std.proofs.Common.{◌≡◌, ℕ, suc, ◌+◌, ◌-◌, ◌<◌, ◌≤◌, Bool, true, false, cond, eqb, List, [], ◌∷◌, ◌++◌, length, get_or, take, drop, sym, refl, ap, ◌∙◌, subst, add-one, arith, length-drop, drop-cons}
+use Rattle.std.proofs.Common.{◌≡◌, ℕ, suc, ◌+◌, ◌-◌, ◌<◌, ◌≤◌, true, false, List, [], ◌∷◌, length, get_or, take, drop, sym, refl, ap, ◌∙◌, add-one, arith, length-drop, drop-cons}
 use Rattle.std.proofs.lemmas.List.{drop_all}
-use Rattle.std.proofs.lemmas.Bool.{cond-true, cond-false, cond_both, ne_eqb}
+use Rattle.std.proofs.lemmas.Bool.{cond-false, cond_both, ne_eqb}
 use Rattle.format.specs.Form.{Kind, letters, digits, opened, closed, hyphen, run, belongs}
-use Rattle.format.specs.Lex.{front, Lexed, item, over, lex_item, lex, gap}
+use Rattle.format.specs.Lex.{front, item, over, lex_item, lex, gap}
 use Rattle.format.proofs.Lexes.{lex_run}
 
 pub front_more : (k : Kind) (src : List ℕ) (i : ℕ) → i < length src → belongs k (get_or src i 0) ≡ true → length (front k (drop i src)) ≡ suc (length (front k (drop (i + 1) src)))

@@ -1,8 +1,7 @@
 -- Tokens that are spelled out are scanned again.
-use Rattle.std.proofs.Common.{◌≡◌, ℕ, zero, suc, ◌+◌, ◌<◌, ◌≤◌, Bool, true, false, cond, ◌&&◌, eqb, leb, List, [], ◌∷◌, ◌++◌, length, sym, refl, ap, ◌∙◌, subst, ap₂, subst₂, append_assoc, append-nil, arith, length-append}
-use Rattle.std.specs.List.{AllByRecursion as All}
+use Rattle.std.proofs.Common.{◌≡◌, ℕ, suc, ◌<◌, true, false, leb, List, [], ◌∷◌, ◌++◌, length, sym, refl, ap, ◌∙◌, subst, append_assoc, append-nil, arith}
 use Rattle.std.proofs.lemmas.Bool.{leb-true, lt-leb, and_parts, and_left, cond-true, cond-false}
-use Rattle.format.specs.Form.{Kind, letters, digits, Token, opened, closed, hyphen, run, Depth, outer, nested, State, begin, need, past, within, ended, Turn, refuse, finish, go, belongs, shut, deeper, leave, enter, after, turn, Scanned, line, unfit, put, scan}
+use Rattle.format.specs.Form.{Kind, letters, digits, Token, opened, closed, hyphen, run, Depth, outer, nested, State, begin, need, past, within, ended, Turn, refuse, finish, go, belongs, shut, enter, turn, Scanned, line, unfit, put, scan}
 use Rattle.format.proofs.Numbers.{Run}
 
 -- from a state on the bytes t are scanned to ts, wherever in the line they stand

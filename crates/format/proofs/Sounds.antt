@@ -1,5 +1,5 @@
 -- A line passes the test of its numbers exactly when each of them is sound.
-use Rattle.std.proofs.Common.{◌≡◌, ℕ, suc, ◌+◌, Bool, true, false, List, [], ◌∷◌, length, Some, None, Option, sym, refl, ap, ◌∙◌, subst, arith}
+use Rattle.std.proofs.Common.{◌≡◌, ℕ, suc, ◌+◌, Bool, true, false, List, [], ◌∷◌, length, Some, None, Option, refl, ap, ◌∙◌, arith}
 use Rattle.std.specs.List.{AllByRecursion as All}
 use Rattle.format.specs.Form.{letters, digits, Token, opened, closed, hyphen, run}
 use Rattle.format.specs.Items.{sound, spaced, unsound}

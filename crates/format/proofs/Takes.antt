@@ -1,10 +1,10 @@
 -- The tokens of the writer's lines are taken for what was written.
-use Rattle.std.proofs.Common.{◌≡◌, ℕ, zero, suc, ◌+◌, ◌≤◌, Bool, true, false, cond, ◌&&◌, eqb, List, [], ◌∷◌, length, decimal, sym, refl, ap, ◌∙◌, subst, arith}
+use Rattle.std.proofs.Common.{◌≡◌, ℕ, ◌≤◌, true, eqb, List, [], ◌∷◌, length, decimal, sym, refl, ap, subst, arith}
 use Rattle.std.specs.List.{AllByRecursion as All}
 use Rattle.std.proofs.lemmas.Bool.{cond_both, eqb-true, eqb-false, eq-eqb, and_from}
 use Rattle.format.specs.Plain.{Lane, Mark, beyond}
-use Rattle.format.specs.Form.{letters, digits, Token, opened, closed, hyphen, run}
-use Rattle.format.specs.Items.{reads, Took, took, other, then, same, says, value, values, triple, table, mark_form, plant_form, lane_form, plant_word, lane_word, Counts, mark_word, to_word, from_word}
+use Rattle.format.specs.Form.{digits, Token, closed, hyphen, run}
+use Rattle.format.specs.Items.{took, same, value, values, triple, table, mark_form, plant_form, lane_form, plant_word, lane_word, Counts, to_word, from_word}
 use Rattle.format.proofs.Numbers.{number_of}
 use Rattle.format.proofs.Sounds.{Sound}
 use Rattle.format.proofs.Lines.{triple-tokens, value_token, values-tokens, table-tokens, mark-tokens}

@@ -1,10 +1,10 @@
 -- Tokens that are taken for a line of the file are those of the writer's line.
-use Rattle.std.proofs.Common.{◌≡◌, ℕ, zero, suc, ◌+◌, ◌≤◌, Bool, true, false, cond, ◌&&◌, eqb, List, [], ◌∷◌, length, Some, None, decimal, Option, sym, refl, ap, ◌∙◌, subst, subst₂, arith}
+use Rattle.std.proofs.Common.{◌≡◌, ℕ, zero, suc, ◌≤◌, Bool, true, false, cond, eqb, List, [], ◌∷◌, Some, decimal, refl, ap, subst, subst₂, arith}
 use Rattle.std.specs.List.{AllByRecursion as All}
 use Rattle.std.proofs.lemmas.Bool.{eqb-true, ne_eqb, and_parts}
 use Rattle.format.specs.Plain.{Lane, Mark, beyond, Table}
 use Rattle.format.specs.Form.{letters, digits, Token, opened, closed, hyphen, run}
-use Rattle.format.specs.Items.{reads, sound, Took, took, other, then, opens, closes, same, says, number, value, values, all, triple, table, mark_form, plant_form, lane_form, plant_word, lane_word, Counts, mark_word, to_word, from_word}
+use Rattle.format.specs.Items.{reads, Took, took, other, then, opens, closes, same, says, number, value, values, all, triple, table, mark_form, plant_form, lane_form, plant_word, lane_word, Counts, mark_word, to_word, from_word}
 use Rattle.format.proofs.Numbers.{number_only}
 use Rattle.format.proofs.Spelled.{Good}
 use Rattle.format.proofs.Sounds.{Sound}

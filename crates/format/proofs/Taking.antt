@@ -1,11 +1,11 @@
 -- What the code's takers say of the definition's.
-use Rattle.std.proofs.Common.{◌≡◌, ℕ, suc, List, [], ◌∷◌, Some, None, Option, sym, refl, ap, ◌∙◌, subst, arith}
+use Rattle.std.proofs.Common.{◌≡◌, ℕ, List, [], ◌∷◌, Some, None, Option, refl, ap, arith}
 use Rattle.format.specs.declared.form.Taken.{Taken}
 use Rattle.format.specs.declared.marks.Mark.{Mark as MarkPlace}
 use Rattle.format.specs.declared.marks.Table.{Table}
 use Rattle.format.specs.Plain.{Mark}
 use Rattle.format.specs.Form.{Token}
-use Rattle.format.specs.Items.{Took, took, other, then, all}
+use Rattle.format.specs.Items.{Took, took, other, all}
 use Rattle.format.specs.Places.{TokensAt, TookPast, TookNumber, ValuesAt, passed}
 use Rattle.format.specs.Reads.{TookTable, MarkAt, MarkTaken}
 

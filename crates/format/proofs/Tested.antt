@@ -1,10 +1,10 @@
 -- The tests after the last line pass exactly when the plant is lawful, its tables' lengths and limits apart.
-use Rattle.std.proofs.Common.{◌≡◌, ℕ, suc, ◌+◌, ◌<◌, ◌≤◌, Bool, true, false, ◌&&◌, ltb, leb, List, [], ◌∷◌, length, get_or, Some, None, Option, sym, refl, ap, ◌∙◌, subst, arith}
+use Rattle.std.proofs.Common.{◌≡◌, ℕ, suc, ◌≤◌, Bool, true, false, ltb, leb, List, [], ◌∷◌, length, get_or, Some, None, Option, refl, ap, ◌∙◌, arith}
 use Rattle.std.specs.List.{AllByRecursion as All}
 use Rattle.std.proofs.lemmas.Bool.{leb-true, le-leb, ltb-true, lt-ltb, and_parts, and_from}
 use Rattle.format.specs.Plain.{Lane, Mark, Plain, joined, Ends, EndsFrom, Kept}
 use Rattle.format.specs.Turns.{Fault}
-use Rattle.format.specs.Checks.{counted, fits_ends, loose, failing, fits_cost, fits_table, or_mark, contradicted, at_lane, Room, has_room, has_counts, tested}
+use Rattle.format.specs.Checks.{fits_ends, loose, failing, fits_cost, fits_table, or_mark, contradicted, at_lane, Room, has_room, has_counts, tested}
 
 pub record Passes (p : Plain) : Type 0 where
   pub some_node : 1 ≤ p.nodes

@@ -1,5 +1,5 @@
 -- A walk at a place of the text, a byte at a time; and that it is the scan without its tokens.
-use Rattle.std.proofs.Common.{◌≡◌, ℕ, suc, ◌+◌, ◌<◌, ◌≤◌, Bool, true, false, cond, eqb, List, [], ◌∷◌, ◌++◌, length, get_or, drop, sym, refl, ap, ◌∙◌, subst, add-one, arith, drop-cons}
+use Rattle.std.proofs.Common.{◌≡◌, ℕ, suc, ◌+◌, ◌<◌, ◌≤◌, Bool, true, false, cond, eqb, List, [], ◌∷◌, length, get_or, drop, sym, refl, ap, ◌∙◌, add-one, drop-cons}
 use Rattle.std.proofs.lemmas.List.{drop_all}
 use Rattle.format.specs.Form.{Kind, letters, digits, Token, run, Depth, outer, nested, State, begin, need, past, within, ended, Turn, refuse, finish, go, belongs, shut, deeper, leave, enter, after, turn, Scanned, line, unfit, put, scan}
 use Rattle.format.specs.declared.phase.Phase.{Phase}

@@ -1,5 +1,5 @@
 -- The tests on a plant after its last line: 1, 8, 3, 4, 6, each over the whole plant.
-use Rattle.std.specs.Prelude.{◌≡◌, ℕ, zero, suc, ◌+◌, Bool, true, false, cond, ◌&&◌, List, [], ◌∷◌, length, Some, None, Option, nat_le, nat_lt, slice_index}
+use Rattle.std.specs.Prelude.{ℕ, suc, ◌+◌, Bool, true, false, ◌&&◌, List, [], ◌∷◌, length, Some, None, Option, nat_le, nat_lt, slice_index}
 use Rattle.format.specs.Plain.{Lane, Mark, Plain, joined}
 use Rattle.format.specs.Turns.{Fault}
 

@@ -1,12 +1,11 @@
 -- How the reader's faults are told.
-use Rattle.std.specs.Prelude.{◌≡◌, ℕ, ◌+◌, ◌-◌, ◌^◌, min, Some, None, Ok, Err, Option, Result}
+use Rattle.std.specs.Prelude.{ℕ, ◌+◌, ◌-◌, ◌^◌, min, Some, None, Ok, Err, Option, Result}
 use Rattle.plants.specs.declared.fault.PlantFault.{PlantFault}
 use Rattle.plants.specs.declared.fault.PlantFault.TheVariants.{Counts, Lengths, Ends, Cost, Index, Table}
 use Rattle.plants.specs.Told.{refusal_of as plant-refusal}
 use Rattle.format.specs.declared.fault.ReadFault.{ReadFault}
 use Rattle.format.specs.declared.fault.ReadFault.TheVariants.{NoForm, Form, Number, Short, Plant}
 use Rattle.format.specs.declared.fault.Placed.{Placed}
-use Rattle.plant.specs.declared.refusal.Layer.{Layer}
 use Rattle.plant.specs.declared.refusal.Layer.TheVariants.{Text as TextLayer, Form as FormLayer, Search as SearchLayer}
 use Rattle.plant.specs.declared.refusal.Refusal.{Refusal}
 use Rattle.format.specs.Turns.{Fault}

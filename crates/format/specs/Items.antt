@@ -1,7 +1,7 @@
 -- The items of a line: numbers that are refused, and each kind of line taken from its tokens.
-use Rattle.std.specs.Prelude.{◌≡◌, ℕ, zero, suc, ◌+◌, ◌-◌, ◌*◌, Bool, true, false, cond, not, ◌&&◌, ◌||◌, List, [], ◌∷◌, ◌++◌, length, Some, None, codes, Option, ◌==◌, nat_le, slice_index}
+use Rattle.std.specs.Prelude.{ℕ, zero, suc, ◌+◌, ◌-◌, ◌*◌, Bool, true, false, cond, not, ◌&&◌, ◌||◌, List, [], ◌∷◌, length, Some, None, codes, Option, ◌==◌, nat_le, slice_index}
 use Rattle.format.specs.Plain.{Lane, Mark, beyond}
-use Rattle.format.specs.Form.{Kind, letters, digits, Token, opened, closed, hyphen, run}
+use Rattle.format.specs.Form.{letters, digits, Token, opened, closed, hyphen, run}
 
 -- the number that digits write, after the number so far
 abbrev pub reads : ℕ → List ℕ → ℕ

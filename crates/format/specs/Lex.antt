@@ -1,5 +1,5 @@
 -- The next token of a line that is known to be a form, as code takes it.
-use Rattle.std.specs.Prelude.{◌≡◌, ℕ, ◌+◌, Bool, true, false, cond, List, [], ◌∷◌, length, ◌==◌}
+use Rattle.std.specs.Prelude.{ℕ, cond, List, [], ◌∷◌, length, ◌==◌}
 use Rattle.format.specs.Form.{Kind, letters, digits, Token, opened, closed, hyphen, run, belongs}
 
 -- the bytes in front that belong to a run

@@ -2,7 +2,6 @@
 use Rattle.std.specs.Prelude.{◌≡◌, ℕ, ◌+◌, true, List, [], ◌∷◌, drop, Some, None, Option}
 use Rattle.format.specs.declared.form.Taken.{Taken}
 use Rattle.format.specs.declared.form.Triple.{Triple}
-use Rattle.format.specs.Plain.{Mark}
 use Rattle.format.specs.Form.{Token}
 use Rattle.format.specs.Lex.{item, over, lex, gap, width}
 use Rattle.format.specs.Items.{sound_token, Took, took, other, then, values}

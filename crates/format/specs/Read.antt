@@ -1,5 +1,5 @@
 -- Reading a plant file: its lines in turn, then the tests on the plant.
-use Rattle.std.specs.Prelude.{◌≡◌, ℕ, List, [], ◌∷◌, Some, None, Option}
+use Rattle.std.specs.Prelude.{ℕ, List, Some, None, Option}
 use Rattle.format.specs.Plain.{Plain}
 use Rattle.format.specs.Turns.{Fault, Got, got, lost, on, lines}
 use Rattle.format.specs.Checks.{Room, tested}

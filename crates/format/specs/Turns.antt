@@ -1,8 +1,8 @@
 -- The lines in turn: the plant's, each lane's, each landmark's.
-use Rattle.std.specs.Prelude.{◌≡◌, ℕ, zero, suc, ◌+◌, false, List, [], ◌∷◌, ◌++◌, Some, None, Option}
-use Rattle.format.specs.Plain.{Lane, Mark, Plain}
+use Rattle.std.specs.Prelude.{ℕ, zero, suc, ◌+◌, false, List, [], ◌∷◌, Some, None, Option}
+use Rattle.format.specs.Plain.{Plain}
 use Rattle.format.specs.Form.{Token, begin, Scanned, line, unfit, scan}
-use Rattle.format.specs.Items.{Took, unsound, all, plant_form, lane_form, mark_form, Counts}
+use Rattle.format.specs.Items.{Took, unsound, all, plant_form, lane_form, mark_form}
 
 -- a fault: its number, its two places, and the line that the reader adds to a plant's fault (0 where none)
 pub record Fault : Type 0 where

@@ -1,5 +1,5 @@
 -- A line's bytes without its tokens, as code walks over them.
-use Rattle.std.specs.Prelude.{◌≡◌, ℕ, suc, Bool, true, false, cond, List, [], ◌∷◌, drop, Ok, Err, Result, ◌==◌}
+use Rattle.std.specs.Prelude.{ℕ, suc, Bool, true, false, cond, List, [], ◌∷◌, drop, Ok, Err, Result, ◌==◌}
 use Rattle.format.specs.Form.{letters, digits, belongs}
 use Rattle.format.specs.declared.phase.Phase.{Phase}
 use Rattle.format.specs.declared.phase.Phase.TheVariants.{Begin, Need, Past, Word, Digits, Ended}

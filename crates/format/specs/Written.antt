@@ -1,5 +1,5 @@
 -- The plant file that the writer writes of a plant.
-use Rattle.std.specs.Prelude.{◌≡◌, ℕ, Bool, cond, List, [], ◌∷◌, ◌++◌, length, codes, decimal, ◌==◌}
+use Rattle.std.specs.Prelude.{ℕ, cond, List, [], ◌∷◌, ◌++◌, length, codes, decimal, ◌==◌}
 use Rattle.format.specs.Plain.{Plain, Lane, Mark, beyond}
 
 -- a value of a table: `-` for beyond

@@ -1,8 +1,7 @@
 -- The faults of close and reopen, case by case, and the list that a reopen leaves.
-use Rattle.std.proofs.Common.{◌≡◌, ℕ, ◌+◌, ◌<◌, ◌≤◌, true, false, cond, eqb, ltb, List, [], ◌∷◌, ◌++◌, reverse, length, get_or, take, drop, set, Some, None, Option, sym, refl, ap, ◌∙◌, arith}
+use Rattle.std.proofs.Common.{◌≡◌, ℕ, ◌+◌, ◌<◌, ◌≤◌, true, false, cond, eqb, ltb, List, [], ◌∷◌, ◌++◌, reverse, length, get_or, take, drop, set, Some, None, sym, refl, ap, ◌∙◌, arith}
 use Rattle.std.proofs.lemmas.List.{get_or-drop, drop-drop, drop-set-lt, length-reverse, length-take-le, take_more, take_more_set, reverse-append}
 use Rattle.std.proofs.lemmas.Bool.{cond-true, cond-false, lt-ltb, le-ltb, eq-eqb, ne_eqb}
-use Rattle.plant.specs.declared.layers.shift.ShiftFault.{ShiftFault}
 use Rattle.plant.specs.declared.layers.shift.ShiftFault.TheVariants.{NoLane, Closed, Full, Open}
 use Rattle.plant.specs.Closed.{among, without}
 use Rattle.plant.specs.Shifted.{close_fault, reopen_fault}

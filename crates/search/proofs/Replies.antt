@@ -11,16 +11,15 @@ use Rattle.search.specs.declared.call.Call.TheVariants.{Close, Reopen, One, Two}
 use Rattle.search.specs.declared.fault.SearchFault.{SearchFault}
 use Rattle.search.specs.declared.fault.SearchFault.TheVariants.{Start, Goal}
 use Rattle.search.specs.declared.reply.CallFault.TheVariants.{Search, Shift}
-use Rattle.search.specs.declared.reply.Reply.{Reply}
 use Rattle.search.specs.declared.reply.Reply.TheVariants.{Closed, Reopened, Route, Beyond, Refused}
 use Rattle.search.specs.declared.row.State.TheVariants.{Scanned, Blank}
 use Rattle.search.specs.Lists.{In}
 use Rattle.search.specs.OneWay.{one_way, one_route}
 use Rattle.search.specs.TwoWay.{two_way, two_route}
-use Rattle.search.specs.Answer.{Right, RightBoth, WorthBackward}
+use Rattle.search.specs.Answer.{RightBoth, WorthBackward}
 use Rattle.search.specs.Calls.{Event, event, taken, Areas}
 use Rattle.search.specs.Moment.{Shut}
-use Rattle.search.specs.Life.{counts_of, rows_forward, rows_backward, CloseRight, ReopenRight, Shown, by_route, by_none, OpenRoute, Answered, SearchRight, ReplyRight, too_short, Held}
+use Rattle.search.specs.Life.{counts_of, rows_forward, rows_backward, CloseRight, ReopenRight, by_route, by_none, OpenRoute, Answered, SearchRight, ReplyRight, too_short, Held}
 use Rattle.search.specs.Served.{Made, plain, unless_shift, unless_search, answer, made, closed_after}
 use Rattle.search.proofs.Answers.{one_way_right}
 use Rattle.search.proofs.Held.{Mild, held_mild, held_close, held_reopen}

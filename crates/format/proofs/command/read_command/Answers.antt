@@ -1,6 +1,5 @@
-use Rattle.std.proofs.Common.{◌≡◌, drop}
+use Rattle.std.proofs.Common.{drop}
 use Rattle.std.proofs.lemmas.Result.{err_from_is_err_and}
-use Rattle.format.specs.Commands.{command_line}
 use Rattle.format.proofs.CommandLines.{command_lost, command_other, command_got}
 use Rattle.format.proofs.command.read_command.Goals as goal
 

@@ -1,4 +1,4 @@
-use Rattle.std.proofs.Common.{◌≡◌, length, sym, refl, ap, ◌∙◌, subst}
+use Rattle.std.proofs.Common.{length}
 use Rattle.format.specs.Items.{value}
 use Rattle.format.proofs.Taking.{some_number, none_number}
 use Rattle.format.proofs.Valued.{fill_none, fill_stop, fill_more, fill_all}

@@ -1,4 +1,4 @@
-use Rattle.std.proofs.Common.{◌≡◌, ℕ, List, length}
+use Rattle.std.proofs.Common.{ℕ, List, length}
 use Rattle.format.specs.Places.{ValuesAt}
 use Rattle.format.proofs.Valued.{Filling}
 use Rattle.format.proofs.form.fill_values.Given as goal

@@ -1,6 +1,6 @@
-use Rattle.std.proofs.Common.{◌≡◌, suc, ◌+◌, ◌-◌, Some, None, sym, refl, ap, ◌∙◌, subst, arith}
+use Rattle.std.proofs.Common.{◌≡◌, ◌+◌, ◌-◌, ap, ◌∙◌, arith}
 use Rattle.format.specs.Items.{value, values}
-use Rattle.format.specs.Places.{TookPast, passed}
+use Rattle.format.specs.Places.{passed}
 use Rattle.format.proofs.Taking.{some_number, none_number}
 use Rattle.format.proofs.Valued.{pass_none, pass_more, pass_all}
 use Rattle.format.proofs.form.skip_values.Goals as goal

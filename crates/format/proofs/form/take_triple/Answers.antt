@@ -1,4 +1,4 @@
-use Rattle.std.proofs.Common.{◌≡◌, ℕ, true, false, [], sym, refl, ap, ◌∙◌, arith}
+use Rattle.std.proofs.Common.{◌≡◌, ℕ, true, false, refl, arith}
 use Rattle.format.specs.Items.{opens, says, number, closes, triple}
 use Rattle.format.proofs.Taking.{some_past, none_past, some_number, none_number, all_left, all-taken}
 use Rattle.format.proofs.form.take_triple.Goals as goal

@@ -1,10 +1,9 @@
-use Rattle.std.proofs.Common.{◌≡◌, ℕ, ◌+◌, Bool, true, false, cond, List, ◌∷◌, drop, Some, None, Decides, sym, refl, ap, ◌∙◌, subst, arith, rules}
+use Rattle.std.proofs.Common.{◌≡◌, ℕ, ◌+◌, Bool, true, false, List, drop, Decides, refl, ap, ◌∙◌, arith, rules}
 use Rattle.std.proofs.lemmas.Slice.Eq.{slice_eq-Decides, compares_Decides}
-use Rattle.format.specs.Form.{Token, run, letters}
-use Rattle.format.specs.Items.{same, says}
+use Rattle.format.specs.Form.{run, letters}
+use Rattle.format.specs.Items.{same}
 use Rattle.format.specs.Lex.{item, gap, width}
 use Rattle.format.specs.Told.{token_of}
-use Rattle.format.specs.Places.{TokensAt, TookPast}
 use Rattle.format.proofs.Places.{at_some}
 use Rattle.format.proofs.form.take_word.Goals as goal
 use Rattle.std.proofs.lemmas.Bool.Decides.{Decides-eqb}

@@ -1,7 +1,6 @@
 use Rattle.std.proofs.Common.{drop}
 use Rattle.std.proofs.lemmas.Result.{err_from_is_err_and}
 use Rattle.format.specs.Items.{triple}
-use Rattle.format.specs.Faults.{told}
 use Rattle.format.proofs.Formed.{form_lost, form_other, form_got}
 use Rattle.format.proofs.lanes.numbers_line.Goals as goal
 

@@ -1,8 +1,7 @@
-use Rattle.std.proofs.Common.{◌≡◌, ℕ, ◌+◌, List, [], ◌∷◌, ◌++◌, map, drop, set, sym, refl, ap, ◌∙◌, subst, arith}
+use Rattle.std.proofs.Common.{ℕ, ◌+◌, [], ◌∷◌, ◌++◌, map, drop, sym, refl, subst, arith}
 use Rattle.std.proofs.lemmas.Result.{err_from_is_err_and}
 use Rattle.format.specs.Plain.{Lane}
 use Rattle.format.specs.Items.{triple, lane_word, lane_form}
-use Rattle.format.specs.Faults.{told}
 use Rattle.format.specs.Reads.{Begins}
 use Rattle.format.proofs.Kept.{made_lost, made_got, read_none, read_lost, read_more, read_all, push_long, column_none, column_more}
 use Rattle.format.proofs.lanes.read_lanes.Goals as goal

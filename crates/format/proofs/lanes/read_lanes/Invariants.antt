@@ -1,4 +1,3 @@
-use Rattle.std.proofs.Common.{◌≡◌}
 use Rattle.format.specs.Items.{lane_form}
 use Rattle.format.specs.Reads.{LanesKept}
 use Rattle.format.proofs.Kept.{Reading}

@@ -1,5 +1,5 @@
-use Rattle.std.proofs.Common.{◌≡◌, drop, ◌∙◌}
-use Rattle.format.proofs.Formed.{no_form, Formed, formed, bad_number, good_line}
+use Rattle.std.proofs.Common.{drop}
+use Rattle.format.proofs.Formed.{no_form, formed, bad_number, good_line}
 use Rattle.format.proofs.Places.{line_at}
 use Rattle.format.proofs.line.checked.Goals as goal
 

@@ -1,9 +1,7 @@
-use Rattle.std.proofs.Common.{◌≡◌, ℕ, ◌+◌, ◌-◌, ◌<◌, ◌≤◌, true, false, List, length, drop, sym, refl, ap, ◌∙◌, subst, arith}
-use Rattle.format.specs.Form.{Token, digits, run}
-use Rattle.format.specs.Items.{sound, sound_token}
-use Rattle.format.specs.Lex.{lex, item, gap, width}
+use Rattle.std.proofs.Common.{◌-◌, ◌<◌, length, drop, sym, ap, ◌∙◌, arith}
+use Rattle.format.specs.Lex.{item}
 use Rattle.format.specs.Told.{token_of}
-use Rattle.format.proofs.Left.{left_start, left_none, left_next, left_bad, wide, gap_le, sound_from, unsound_from}
+use Rattle.format.proofs.Left.{left_start, left_none, left_next, left_bad, wide, sound_from, unsound_from}
 use Rattle.format.proofs.RunEnds.{lex_none}
 use Rattle.format.proofs.line.first_unsound.Goals as goal
 

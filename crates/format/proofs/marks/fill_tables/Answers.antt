@@ -1,4 +1,4 @@
-use Rattle.std.proofs.Common.{◌≡◌, ℕ, ◌+◌, ◌*◌, ◌≤◌, length, mul-le-mul_right, add-mul, one-mul, arith}
+use Rattle.std.proofs.Common.{ℕ, ◌+◌, ◌*◌, ◌≤◌, length, mul-le-mul_right, add-mul, one-mul, arith}
 use Rattle.format.specs.Plain.{to_row, from_row}
 use Rattle.format.proofs.Tables.{marks_long, marks_nth, to_more, from_more, table_none, table-all}
 use Rattle.format.proofs.marks.fill_tables.Goals as goal

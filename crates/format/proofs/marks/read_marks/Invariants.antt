@@ -1,4 +1,4 @@
-use Rattle.std.proofs.Common.{◌≡◌, ◌+◌}
+use Rattle.std.proofs.Common.{◌+◌}
 use Rattle.format.specs.Items.{mark_form}
 use Rattle.format.specs.Reads.{MarksKept}
 use Rattle.format.proofs.Kept.{Reading}

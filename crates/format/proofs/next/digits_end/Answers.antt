@@ -1,5 +1,5 @@
-use Rattle.std.proofs.Common.{◌≡◌, true, false, length, get_or, drop, sym, ◌∙◌, arith}
-use Rattle.format.specs.Form.{digits, belongs}
+use Rattle.std.proofs.Common.{sym, arith}
+use Rattle.format.specs.Form.{digits}
 use Rattle.format.proofs.RunEnds.{front_more, front_halt, front_none}
 use Rattle.format.proofs.next.digits_end.Goals as goal
 

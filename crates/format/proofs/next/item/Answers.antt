@@ -1,4 +1,4 @@
-use Rattle.std.proofs.Common.{◌≡◌, ◌+◌, length, get_or, drop, sym, refl, ap, ◌∙◌, arith}
+use Rattle.std.proofs.Common.{◌+◌, sym, refl, ap, arith}
 use Rattle.format.specs.Form.{letters, digits}
 use Rattle.format.proofs.RunEnds.{run_within, run_told, item_none, item_hyphen, item_open, item_close, item_other}
 use Rattle.format.proofs.next.item.Goals as goal

@@ -1,5 +1,5 @@
-use Rattle.std.proofs.Common.{◌≡◌, ℕ, ◌+◌, length, get_or, drop, sym, refl, ◌∙◌, subst₂, arith}
-use Rattle.format.specs.Lex.{Lexed, gap}
+use Rattle.std.proofs.Common.{◌≡◌, ◌+◌, drop, sym, subst₂, arith}
+use Rattle.format.specs.Lex.{gap}
 use Rattle.format.specs.Told.{Told}
 use Rattle.format.proofs.RunEnds.{lex_none, lex_space, lex_here}
 use Rattle.format.proofs.next.next.Goals as goal

@@ -1,5 +1,5 @@
-use Rattle.std.proofs.Common.{◌≡◌, true, false, length, get_or, drop, sym, ◌∙◌, arith}
-use Rattle.format.specs.Form.{letters, belongs}
+use Rattle.std.proofs.Common.{sym, arith}
+use Rattle.format.specs.Form.{letters}
 use Rattle.format.proofs.RunEnds.{front_more, front_halt, front_none}
 use Rattle.format.proofs.next.word_end.Goals as goal
 

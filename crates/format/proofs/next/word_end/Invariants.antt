@@ -1,4 +1,4 @@
-use Rattle.std.proofs.Common.{◌≡◌, ◌+◌, ◌-◌, ◌≤◌, length, drop}
+use Rattle.std.proofs.Common.{◌≡◌, ◌+◌, ◌-◌, length, drop}
 use Rattle.format.specs.Form.{letters}
 use Rattle.format.specs.Lex.{front}
 use Rattle.format.proofs.next.word_end.Given as goal

@@ -1,5 +1,4 @@
-use Rattle.std.proofs.Common.{◌≡◌, ℕ, suc, ◌+◌, ◌-◌, ◌*◌, ◌<◌, ◌≤◌, length, get_or, drop, sym, refl, ap, ◌∙◌, subst, arith}
-use Rattle.format.specs.Items.{reads}
+use Rattle.std.proofs.Common.{◌+◌, ◌*◌, drop, ◌∙◌, arith}
 use Rattle.format.proofs.Figures.{reads_next, reads_none, reads_ge, numeral_large, numeral_small, lead_short, lead_other}
 use Rattle.format.proofs.number.number.Goals.{then-text-gt1+else-text-eq48, else-text-gt1}
 use Rattle.format.proofs.number.number.Goals as goal

@@ -1,4 +1,4 @@
-use Rattle.std.proofs.Common.{◌≡◌, true, false, leb, sym, arith}
+use Rattle.std.proofs.Common.{◌≡◌, true, false, leb, arith}
 use Rattle.std.proofs.lemmas.Bool.{le-leb, lt-leb}
 use Rattle.format.specs.Form.{belongs}
 use Rattle.format.proofs.phase.is_digit.Goals as goal

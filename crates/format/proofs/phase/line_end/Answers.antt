@@ -1,4 +1,4 @@
-use Rattle.std.proofs.Common.{◌≡◌, ℕ, suc, ◌+◌, ◌-◌, ◌≤◌, length, get_or, drop, sym, refl, ap, ◌∙◌, subst, arith}
+use Rattle.std.proofs.Common.{◌≡◌, suc, ◌+◌, ◌-◌, drop, ap, ◌∙◌, arith}
 use Rattle.format.specs.declared.phase.Move.TheVariants.{Refuse, Finish, Go}
 use Rattle.format.specs.Walk.{walk}
 use Rattle.format.proofs.Walks.{walk_at, walk_none}

@@ -1,10 +1,10 @@
-use Rattle.std.proofs.Common.{◌≡◌, ℕ, ◌≤◌, true, false, List, length, drop, replicate, sym, refl, ap, ◌∙◌, subst, arith}
+use Rattle.std.proofs.Common.{◌≡◌, ℕ, ◌≤◌, true, List, length, drop, replicate, sym, refl, ap, ◌∙◌, arith}
 use lib.ListN.{length-replicate}
 use Rattle.std.proofs.lemmas.Result.{err_from_is_err_and}
 use Rattle.plants.specs.Faults.{counts_fit}
 use Rattle.format.specs.Plain.{Lane}
 use Rattle.format.specs.Reader.{room_of, Roomy}
-use Rattle.format.specs.Space.{held, space_of, room_for}
+use Rattle.format.specs.Space.{held, room_for}
 use Rattle.format.proofs.Answered.{counts_refused, counts_kept, sized_counts, sized_room, refuses_line, placed_fault, placed_none, refuses_counts, refuses_short, refuses_found, few_lanes, few_marks, kept_marks, kept_column, written_for, tables_for}
 use Rattle.format.proofs.plant_file.read_plant.Goals as goal
 

@@ -9,4 +9,4 @@ loop-at-smaller c =
     let at = c.loop-at.at in
     let long = length-drop at t in
     let less : length (behind_feed (drop at t)) < length (drop at t) = shorter (drop at t) (omega (arith, c.loop-at-test.true)) in
-    omega (arith, c.line-feed-after-at.ensures, c.loop-at-test.true)
+    omega (arith, c.line_feed_after-at.ensures, c.loop-at-test.true)

@@ -1,4 +1,4 @@
-use Rattle.std.proofs.Common.{◌≡◌, ◌-◌, List, length, sym, refl, ap, ◌∙◌, subst}
+use Rattle.std.proofs.Common.{◌-◌, List, length, sym, refl, ap, ◌∙◌, subst}
 use Rattle.plant.specs.Closed.{among, shut}
 use Rattle.plant.specs.Shifted.{closed_list, close_fault, reopen_fault}
 use Rattle.search.specs.declared.call.Call.{Call}
@@ -11,7 +11,7 @@ use Rattle.search.specs.Life.{too_short}
 use Rattle.search.specs.Lists.{onto}
 use Rattle.search.specs.OneWay.{one_way, one_route}
 use Rattle.search.specs.TwoWay.{two_way, two_route}
-use Rattle.search.specs.Served.{answer, search_fault, made, Makes, closed_after}
+use Rattle.search.specs.Served.{search_fault, made, Makes, closed_after}
 use Rattle.search.proofs.MadeFacts.{shift_accepts, shift_refuses, search_keeps, one_far}
 use Rattle.search.proofs.calling.call_on.Goals as goal
 

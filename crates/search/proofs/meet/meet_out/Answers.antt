@@ -1,4 +1,4 @@
-use Rattle.std.proofs.Common.{◌≡◌, ◌<◌, ◌≤◌, length, sym, ◌∙◌, arith}
+use Rattle.std.proofs.Common.{◌<◌, ◌≤◌, length, sym, ◌∙◌, arith}
 use Rattle.plant.specs.Floor.{out_of}
 use Rattle.search.specs.TwoWay.{spread}
 use Rattle.search.proofs.MeetFacts.{meet_more, meet_done}

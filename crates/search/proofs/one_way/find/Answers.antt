@@ -1,4 +1,4 @@
-use Rattle.std.proofs.Common.{◌≡◌, ℕ, ◌≤◌, true, false, List, [], length, sym, ap, ◌∙◌, subst, arith}
+use Rattle.std.proofs.Common.{◌≡◌, ◌≤◌, true, false, List, [], length, sym, ap, ◌∙◌, arith}
 use Rattle.search.specs.declared.row.Row.{Row}
 use Rattle.search.specs.OneWay.{one_way, one_route}
 use Rattle.search.specs.Steps.{count_scanned, trace}

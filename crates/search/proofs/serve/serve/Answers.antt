@@ -1,7 +1,6 @@
 use Rattle.std.proofs.Common.{◌≡◌, ℕ, List, [], length, take, ap, subst}
 use Rattle.std.proofs.lemmas.Result.{MatchResult-weaker}
 use Rattle.plant.specs.Floor.{Floor}
-use Rattle.plant.specs.Shifted.{closed_list}
 use Rattle.search.specs.Calls.{areas}
 use Rattle.search.specs.Life.{Life}
 use Rattle.search.specs.Served.{served_from, AllMade}

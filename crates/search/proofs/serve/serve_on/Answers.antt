@@ -1,4 +1,4 @@
-use Rattle.std.proofs.Common.{◌≡◌, ltb, length, Some, None, sym}
+use Rattle.std.proofs.Common.{ltb, length, Some, None, sym}
 use Rattle.std.proofs.lemmas.Bool.{cond-false, le-ltb}
 use Rattle.search.specs.declared.fault.SearchFault.TheVariants.{Replies}
 use Rattle.search.proofs.Life.{fresh_life}

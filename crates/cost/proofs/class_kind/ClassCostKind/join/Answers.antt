@@ -1,4 +1,4 @@
-use Rattle.std.proofs.Common.{arith, rules}
+use Rattle.std.proofs.Common.{rules}
 use Rattle.cost.specs.Classes.{same_class}
 use Rattle.cost.proofs.class_kind.ClassCostKind.join.Goals as goal
 

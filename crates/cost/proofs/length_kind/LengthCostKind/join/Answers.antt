@@ -1,4 +1,4 @@
-use Rattle.std.proofs.Common.{arith, rules}
+use Rattle.std.proofs.Common.{rules}
 use Rattle.cost.specs.Lengths.{same_length}
 use Rattle.cost.proofs.length_kind.LengthCostKind.join.Goals as goal
 

@@ -1,4 +1,4 @@
-use Rattle.std.proofs.Common.{◌≡◌, ℕ, ◌+◌, ◌<◌, ◌≤◌, List, length, get_or, take, drop, set, sym, ap, ◌∙◌, arith}
+use Rattle.std.proofs.Common.{◌≡◌, ℕ, ◌+◌, ◌<◌, ◌≤◌, length, get_or, take, drop, set, sym, ap, ◌∙◌, arith}
 use Rattle.plant.specs.Closed.{without}
 use Rattle.plant.proofs.ShiftFacts.{keeps, drops, same_at, behind_more, behind_set}
 use Rattle.plant.proofs.layers.closing.keep_others.Goals as goal

@@ -1,4 +1,4 @@
-use Rattle.std.proofs.Common.{◌≡◌, ◌≤◌, length, take, drop}
+use Rattle.std.proofs.Common.{◌≡◌, ◌≤◌, take, drop}
 use Rattle.plant.specs.Closed.{without}
 use Rattle.plant.proofs.layers.closing.keep_others.Given as goal
 

@@ -1,4 +1,4 @@
-use Rattle.std.proofs.Common.{◌≡◌, ◌<◌, ◌≤◌, length, sym, refl, ◌∙◌, arith, rules}
+use Rattle.std.proofs.Common.{◌≡◌, ◌<◌, length, sym, refl, arith}
 use Rattle.plant.specs.Shifted.{closed_list}
 use Rattle.plant.proofs.ShiftFacts.{front_long, close_full, close_none, one_more}
 use Rattle.plant.proofs.layers.shift.Shift.close.Goals as goal

@@ -1,4 +1,4 @@
-use Rattle.std.proofs.Common.{◌≡◌, ◌<◌, reverse, length, take, sym, refl, ap, ◌∙◌, arith, rules}
+use Rattle.std.proofs.Common.{◌<◌, reverse, length, take, sym, refl, ap, ◌∙◌, arith}
 use Rattle.plant.specs.Shifted.{closed_list}
 use Rattle.plant.proofs.Among.{without-reverse}
 use Rattle.plant.proofs.ShiftFacts.{reopen_none}

@@ -1,4 +1,4 @@
-use Rattle.std.proofs.Common.{◌≡◌, sym, ap, ◌∙◌}
+use Rattle.std.proofs.Common.{sym, ap, ◌∙◌}
 use Rattle.plant.specs.Closed.{shut_lane}
 use Rattle.plant.specs.Shifted.{is_shut}
 use Rattle.plant.proofs.LayerFacts.{nth-shut, over, shut_there, open_there}
