@@ -1,6 +1,6 @@
 -- What the writer writes of a lawful plant is read back as that plant, whatever stands behind it.
 use Rattle.std.proofs.Common.{◌≡◌, ℕ, suc, ◌+◌, ◌≤◌, true, false, List, [], ◌∷◌, ◌++◌, length, refl, append_assoc, arith}
-use Rattle.std.specs.List.{AllByRecursion as All}
+use Rattle.std.specs.List.{AllByRecursion}
 use Rattle.format.specs.Plain.{Lane, Mark, Plain, Lawful, Table, EndsFrom}
 use Rattle.format.specs.Written.{plant_line, lane_line, mark_line, texts, written}
 use Rattle.format.specs.Form.{Token, begin, belongs}
@@ -15,12 +15,12 @@ use Rattle.format.proofs.Takes.{sound-triple, sound-mark, plant_takes, lane_take
 use Rattle.format.proofs.Tested.{Passes, passes_none}
 
 -- a line of which f takes all tokens
-takes_form : {A : Type 0} (f : List Token → Took A) (n : ℕ) (t : List ℕ) (ts : List Token) (rest : List ℕ) (a : A) → Scans begin t ts rest → All Sound ts → f ts ≡ took a [] → form f n t ≡ got a rest
+takes_form : {A : Type 0} (f : List Token → Took A) (n : ℕ) (t : List ℕ) (ts : List Token) (rest : List ℕ) (a : A) → Scans begin t ts rest → AllByRecursion Sound ts → f ts ≡ took a [] → form f n t ≡ got a rest
 unfolding form tokens
 takes_form f n t ts rest a s h e = rw (s 1, sound_none ts false 1 h, e)
 
 -- line after line
-takes_forms : {A : Type 0} (f : List Token → Took A) (text : A → List ℕ) (P : A → Type 0) → ((n : ℕ) (a : A) (rest : List ℕ) → P a → form f n (text a ++ rest) ≡ got a rest) → (xs : List A) (n : ℕ) (rest : List ℕ) → All P xs → forms f (length xs) n (texts text xs ++ rest) ≡ got xs rest
+takes_forms : {A : Type 0} (f : List Token → Took A) (text : A → List ℕ) (P : A → Type 0) → ((n : ℕ) (a : A) (rest : List ℕ) → P a → form f n (text a ++ rest) ≡ got a rest) → (xs : List A) (n : ℕ) (rest : List ℕ) → AllByRecursion P xs → forms f (length xs) n (texts text xs ++ rest) ≡ got xs rest
 unfolding forms
 takes_forms f text P one [] n rest h = refl
 takes_forms f text P one (x ∷ xs) n rest h =
@@ -48,7 +48,7 @@ mark-read nodes n m rest h =
     rw (mark_spelled m rest)
     (takes_form (mark_form nodes) n _ _ rest m (scans_mark m h.0.1 h.1.1 rest) (sound-mark m h.0.1 h.1.1) (mark_takes nodes m h.0.0 h.0.1 h.1.0 h.1.1))
 
-small_lanes : (nodes prev : ℕ) (ls : List Lane) → nodes ≤ 4096 → EndsFrom nodes prev ls → All (λ (l : Lane). l.cost ≤ 1000000) ls → All SmallLane ls
+small_lanes : (nodes prev : ℕ) (ls : List Lane) → nodes ≤ 4096 → EndsFrom nodes prev ls → AllByRecursion (λ (l : Lane). l.cost ≤ 1000000) ls → AllByRecursion SmallLane ls
 small_lanes nodes prev [] few h c = tt
 small_lanes nodes prev (l ∷ ls) few h c =
     let a = h.0.0 in let b = h.0.1 in let d = c.0 in

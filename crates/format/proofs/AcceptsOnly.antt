@@ -1,6 +1,6 @@
 -- What is read as a plant is what the writer writes of it, and the plant is lawful.
 use Rattle.std.proofs.Common.{◌≡◌, ℕ, zero, suc, ◌+◌, true, false, List, [], ◌∷◌, ◌++◌, length, Some, None, Option, sym, refl, ap, ◌∙◌, subst₂, append_assoc, arith}
-use Rattle.std.specs.List.{AllByRecursion as All}
+use Rattle.std.specs.List.{AllByRecursion}
 use Rattle.format.specs.Plain.{Lane, Mark, Plain, Lawful, Table}
 use Rattle.format.specs.Written.{plant_line, lane_line, mark_line, texts, written}
 use Rattle.format.specs.Form.{Token, begin, Scanned, line, unfit, scan}
@@ -24,13 +24,13 @@ on_only : {A B : Type 0} (x : Got A) (f : A → List ℕ → Got B) (b : B) (r :
 on_only (got a t) f b r e = record { mid = a; left = t; was = refl; goes = e }
 on_only (lost q) f b r e = absurd (let z : ◌≡◌ {A = ℕ} 0 1 = cc in omega arith)
 
-fair_from : (ts : List Token) → All Good ts → All Sound ts → All Fair ts
+fair_from : (ts : List Token) → AllByRecursion Good ts → AllByRecursion Sound ts → AllByRecursion Fair ts
 fair_from [] g s = tt
 fair_from (k ∷ ts) g s = ((g.0, s.0), fair_from ts g.1 s.1)
 
 record IsLine (t : List ℕ) (ts : List Token) (rest : List ℕ) : Type 0 where
   spelt : t ≡ spelled false ts (10 ∷ rest)
-  fair : All Fair ts
+  fair : AllByRecursion Fair ts
 
 tokens_only : (n : ℕ) (t : List ℕ) (ts : List Token) (rest : List ℕ) → tokens n t ≡ got ts rest → IsLine t ts rest
 unfolding tokens
@@ -49,7 +49,7 @@ tokens_only n t ts rest e = by (scan begin 1 t) refl e
 record IsForm {A : Type 0} (f : List Token → Took A) (t : List ℕ) (a : A) (rest : List ℕ) : Type 0 where
   ts : List Token
   spelt : t ≡ spelled false ts (10 ∷ rest)
-  fair : All Fair ts
+  fair : AllByRecursion Fair ts
   taken : all (f ts) ≡ Some a
 
 form_only : {A : Type 0} (f : List Token → Took A) (n : ℕ) (t : List ℕ) (a : A) (rest : List ℕ) → form f n t ≡ got a rest → IsForm f t a rest
@@ -68,7 +68,7 @@ form_only f n t a rest e =
 record AreForms {A : Type 0} (text : A → List ℕ) (Q : A → Type 0) (k : ℕ) (t : List ℕ) (xs : List A) (rest : List ℕ) : Type 0 where
   spelt : t ≡ texts text xs ++ rest
   count : length xs ≡ k
-  each : All Q xs
+  each : AllByRecursion Q xs
 
 forms_only : {A : Type 0} (f : List Token → Took A) (text : A → List ℕ) (Q : A → Type 0) → ((n : ℕ) (t : List ℕ) (a : A) (rest : List ℕ) → form f n t ≡ got a rest → (t ≡ text a ++ rest) × Q a) → (k n : ℕ) (t : List ℕ) (xs : List A) (rest : List ℕ) → forms f k n t ≡ got xs rest → AreForms text Q k t xs rest
 unfolding forms
@@ -113,7 +113,7 @@ Tables nodes m = Table nodes m.to × Table nodes m.from
 
 record AreLines (t : List ℕ) (p : Plain) (rest : List ℕ) : Type 0 where
   spelt : t ≡ written p ++ rest
-  tables : All (Tables p.nodes) p.marks
+  tables : AllByRecursion (Tables p.nodes) p.marks
 
 glue : (a b c w u v t : List ℕ) → t ≡ a ++ u → u ≡ b ++ v → v ≡ c ++ w → t ≡ (a ++ (b ++ c)) ++ w
 glue a b c w u v t p q r = p ∙ (ap (λ z. a ++ z) (q ∙ (ap (λ z. b ++ z) r ∙ sym (append_assoc b c w))) ∙ sym (append_assoc a (b ++ c) w))

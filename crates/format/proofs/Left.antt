@@ -1,6 +1,6 @@
 -- The tokens of a line that are left at a place of the text, while its numbers are tested.
 use Rattle.std.proofs.Common.{◌≡◌, ℕ, suc, ◌+◌, ◌-◌, ◌<◌, ◌≤◌, Bool, true, false, eqb, List, [], ◌∷◌, ◌++◌, length, drop, Some, None, Option, sym, refl, ap, ◌∙◌, subst, arith, drop-drop}
-use Rattle.std.specs.List.{AllByRecursion as All}
+use Rattle.std.specs.List.{AllByRecursion}
 use Rattle.std.proofs.lemmas.Bool.{cond-false, cond_both}
 use Rattle.format.specs.Form.{Kind, letters, digits, Token, opened, closed, hyphen, run, begin, line, scan, belongs}
 use Rattle.format.specs.Items.{sound, sound_token, spaced, unsound}
@@ -14,7 +14,7 @@ pub record Left (src : List ℕ) (from at : ℕ) (ts : List Token) (rest : List 
   pub flag : Bool
   pub us : List Token
   pub here : drop at src ≡ spelled flag us (10 ∷ rest)
-  pub good : All Good us
+  pub good : AllByRecursion Good us
   pub same : unsound false 1 ts ≡ unsound flag (at - from + 1) us
 
 pub left_start : (src : List ℕ) (from : ℕ) (ts : List Token) (rest : List ℕ) → scan begin 1 (drop from src) ≡ line ts rest → Left src from from ts rest
@@ -52,7 +52,7 @@ pub left_none : (src : List ℕ) (from at : ℕ) (ts : List Token) (rest : List 
 unfolding unsound
 left_none src from at ts rest l e = by l.flag l.us l.here l.good l.same
   where
-    by : (f : Bool) (us : List Token) → drop at src ≡ spelled f us (10 ∷ rest) → All Good us → unsound false 1 ts ≡ unsound f (at - from + 1) us → unsound false 1 ts ≡ None
+    by : (f : Bool) (us : List Token) → drop at src ≡ spelled f us (10 ∷ rest) → AllByRecursion Good us → unsound false 1 ts ≡ unsound f (at - from + 1) us → unsound false 1 ts ≡ None
     by f [] h g s = s
     by f (k ∷ us) h g s =
         let p = lexes f k us rest g.0 in
@@ -65,13 +65,13 @@ pub record Next (src : List ℕ) (from at : ℕ) (ts : List Token) (rest : List 
   pub us : List Token
   pub here : drop at src ≡ spelled flag (k ∷ us) (10 ∷ rest)
   pub good : Good k
-  pub goods : All Good us
+  pub goods : AllByRecursion Good us
   pub same : unsound false 1 ts ≡ unsound flag (at - from + 1) (k ∷ us)
 
 left_some : (src : List ℕ) (from at : ℕ) (ts : List Token) (rest : List ℕ) (k : Token) → Left src from at ts rest → lex (drop at src) ≡ item k → Next src from at ts rest k
 left_some src from at ts rest k l e = by l.flag l.us l.here l.good l.same
   where
-    by : (f : Bool) (us : List Token) → drop at src ≡ spelled f us (10 ∷ rest) → All Good us → unsound false 1 ts ≡ unsound f (at - from + 1) us → Next src from at ts rest k
+    by : (f : Bool) (us : List Token) → drop at src ≡ spelled f us (10 ∷ rest) → AllByRecursion Good us → unsound false 1 ts ≡ unsound f (at - from + 1) us → Next src from at ts rest k
     by f [] h g s =
         let p = lexes_over f rest in
         let q = ap lex h in

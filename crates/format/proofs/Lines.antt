@@ -1,6 +1,6 @@
 -- The tokens of the writer's lines: they spell the lines, and the lines are scanned to them.
 use Rattle.std.proofs.Common.{◌≡◌, ℕ, ◌<◌, ◌≤◌, Bool, true, false, cond, eqb, List, [], ◌∷◌, ◌++◌, length, decimal, sym, refl, ap, ◌∙◌, append_assoc, arith}
-use Rattle.std.specs.List.{AllByRecursion as All}
+use Rattle.std.specs.List.{AllByRecursion}
 use Rattle.std.proofs.lemmas.Bool.{cond_both, eqb-false}
 use Rattle.format.specs.Plain.{Lane, Mark, beyond}
 use Rattle.format.specs.Written.{value_text, values_text, plant_line, lane_line, mark_line}
@@ -71,17 +71,17 @@ scans_value x h ks e rest f = cond_both (eqb x beyond) hyphen (run digits (decim
     spaced : (t : List ℕ) (ts : List Token) → Scans (need nested) t ts rest → Follow ts (32 ∷ t) rest
     spaced t ts s = (scans_space nested t ts rest s, λ k w. run_space nested k w t ts rest s)
 
-scans_values : (xs : List ℕ) → All (λ x. x ≤ beyond) xs → (ks : List Token) (e rest : List ℕ) → Follow ks (spelled true ks e) rest → Follow (values-tokens xs ks) (spelled true (values-tokens xs ks) e) rest
+scans_values : (xs : List ℕ) → AllByRecursion (λ x. x ≤ beyond) xs → (ks : List Token) (e rest : List ℕ) → Follow ks (spelled true ks e) rest → Follow (values-tokens xs ks) (spelled true (values-tokens xs ks) e) rest
 scans_values [] h ks e rest f = f
 scans_values (x ∷ xs) h ks e rest f = scans_value x h.0 (values-tokens xs ks) e rest (scans_values xs h.1 ks e rest f)
 
 -- a table in a mark
-scans_table : (w xs : List ℕ) → Run letters w → 0 < length w → All (λ x. x ≤ beyond) xs → (ks : List Token) (e rest : List ℕ) → Scans (past outer) (spelled true ks e) ks rest → Scans (need outer) (spelled false (table-tokens w xs ks) e) (table-tokens w xs ks) rest
+scans_table : (w xs : List ℕ) → Run letters w → 0 < length w → AllByRecursion (λ x. x ≤ beyond) xs → (ks : List Token) (e rest : List ℕ) → Scans (past outer) (spelled true ks e) ks rest → Scans (need outer) (spelled false (table-tokens w xs ks) e) (table-tokens w xs ks) rest
 scans_table w xs r some h ks e rest s =
     scans_nested _ _ rest (scans_run nested letters w _ _ rest r some
     ((scans_values xs h (closed ∷ ks) e rest (scans_close nested _ _ rest s, λ k w. run_close nested k w _ _ rest s)).1 letters w))
 
-pub scans_mark : (m : Mark) → All (λ x. x ≤ beyond) m.to → All (λ x. x ≤ beyond) m.from → (rest : List ℕ) → Scans begin (spelled false (mark-tokens m) (10 ∷ rest)) (mark-tokens m) rest
+pub scans_mark : (m : Mark) → AllByRecursion (λ x. x ≤ beyond) m.to → AllByRecursion (λ x. x ≤ beyond) m.from → (rest : List ℕ) → Scans begin (spelled false (mark-tokens m) (10 ∷ rest)) (mark-tokens m) rest
 unfolding belongs
 scans_mark m to from rest =
     scans_open _ _ rest (scans_run outer letters mark_word _ _ rest (refl, (refl, (refl, (refl, tt)))) (omega arith) (run_space outer letters mark_word _ _ rest

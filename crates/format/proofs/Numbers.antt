@@ -1,6 +1,6 @@
 -- The digits that the writer writes are read back, and digits that are accepted are those that it writes.
 use Rattle.std.proofs.Common.{◌≡◌, ℕ, ◌<◌, ◌≤◌, true, not, ◌||◌, eqb, leb, List, length, get_or, decimal, sym, ap, subst, ⊎_elim, arith, rules}
-use Rattle.std.specs.List.{AllByRecursion as All}
+use Rattle.std.specs.List.{AllByRecursion}
 use Rattle.std.specs.Int.{IsInRange}
 use Rattle.std.proofs.lemmas.Str.Parse.{IsNumeralModel, numerals_by_fold}
 use Rattle.std.proofs.lemmas.Fmt.{digits_decimal, digits_value-decimal, decimal-digits_value, decimal_nonempty, decimal_digit, first_decimal}
@@ -10,7 +10,7 @@ use Rattle.format.specs.Items.{reads, sound}
 
 -- each byte is one of a run's
 abbrev pub Run : Kind → List ℕ → Type 0
-Run k w = All (λ c. belongs k c ≡ true) w
+Run k w = AllByRecursion (λ c. belongs k c ≡ true) w
 
 digit_in : (c : ℕ) → belongs digits c ≡ true → IsInRange 48 57 c
 unfolding belongs

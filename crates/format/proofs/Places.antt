@@ -1,6 +1,6 @@
 -- Tokens at a place of the text.
 use Rattle.std.proofs.Common.{◌≡◌, ℕ, ◌+◌, Bool, true, false, List, [], ◌∷◌, drop, Some, None, sym, refl, ap, ◌∙◌, subst, arith, drop-drop}
-use Rattle.std.specs.List.{AllByRecursion as All}
+use Rattle.std.specs.List.{AllByRecursion}
 use Rattle.format.specs.Form.{Token, opened, closed, hyphen, run, letters, digits, begin, line, scan}
 use Rattle.format.specs.Items.{sound_token, unsound, Took, took, other}
 use Rattle.format.specs.Lex.{item, over, lex, gap, width}
@@ -16,7 +16,7 @@ sound_is hyphen s = refl
 sound_is (run letters w) s = refl
 sound_is (run digits w) s = s
 
-spelled_at : (src : List ℕ) (at : ℕ) (f : Bool) (ts : List Token) (rest : List ℕ) → drop at src ≡ spelled f ts (10 ∷ rest) → All Good ts → All Sound ts → TokensAt src at ts
+spelled_at : (src : List ℕ) (at : ℕ) (f : Bool) (ts : List Token) (rest : List ℕ) → drop at src ≡ spelled f ts (10 ∷ rest) → AllByRecursion Good ts → AllByRecursion Sound ts → TokensAt src at ts
 spelled_at src at f [] rest e g s = ap lex e ∙ lexes_over f rest
 spelled_at src at f (k ∷ ts) rest e g s = (
   ap lex e ∙ lexes f k ts rest g.0,

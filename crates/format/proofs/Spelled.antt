@@ -1,6 +1,6 @@
 -- A line that is scanned is its tokens, spelled out.
 use Rattle.std.proofs.Common.{◌≡◌, ℕ, suc, ◌<◌, Bool, true, false, cond, eqb, List, [], ◌∷◌, ◌++◌, length, sym, refl, ap, ◌∙◌, subst, ap₂, subst₂, append_assoc, arith, length-append}
-use Rattle.std.specs.List.{AllByRecursion as All}
+use Rattle.std.specs.List.{AllByRecursion}
 use Rattle.std.proofs.ByRecursion.{All-append}
 use Rattle.std.proofs.lemmas.Bool.{eqb-true, cond_both}
 use Rattle.format.specs.Form.{Kind, letters, digits, Token, opened, closed, hyphen, run, Depth, outer, nested, State, begin, need, past, within, ended, Turn, refuse, finish, go, belongs, shut, deeper, leave, enter, after, turn, Scanned, line, unfit, put, scan}
@@ -45,7 +45,7 @@ abbrev Fine : State → ℕ → Turn → Type 0
 Fine s c refuse = Unit {0}
 Fine s c finish = (s ≡ ended) × (c ≡ 10)
 Fine s c (go ks s') =
-    Holds s' × ((t : List ℕ) (ts : List Token) (e : List ℕ) → Says s' t ts e → All Good ts → Says s (c ∷ t) (ks ++ ts) e × All Good (ks ++ ts))
+    Holds s' × ((t : List ℕ) (ts : List Token) (e : List ℕ) → Says s' t ts e → AllByRecursion Good ts → Says s (c ∷ t) (ks ++ ts) e × AllByRecursion Good (ks ++ ts))
 
 fine_leave : (d : Depth) (c : ℕ) → Fine (past d) c (leave d c)
 fine_leave d c = cond_both (eqb c 32) (go [] (need d)) (cond (eqb c 41) (go (closed ∷ []) (shut d)) refuse) (Fine (past d) c)
@@ -88,7 +88,7 @@ fine ended c h = cond_both (eqb c 10) _ _ (Fine ended c) (λ q. (refl, eqb-true 
 
 -- the bytes of t from a state on are the tokens that are scanned there
 abbrev Spelt : List ℕ → Type 0
-Spelt t = (s : State) (b : ℕ) (ts : List Token) (rest : List ℕ) → Holds s → scan s b t ≡ line ts rest → Says s t ts (10 ∷ rest) × All Good ts
+Spelt t = (s : State) (b : ℕ) (ts : List Token) (rest : List ℕ) → Holds s → scan s b t ≡ line ts rest → Says s t ts (10 ∷ rest) × AllByRecursion Good ts
 
 spelt : (t : List ℕ) → Spelt t
 unfolding scan
@@ -96,7 +96,7 @@ spelt [] s b ts rest h e = absurd (let z : ◌≡◌ {A = ℕ} 0 1 = cc in omega
 spelt (c ∷ t) s b ts rest h e = by_turn (spelt t) (turn s c) (fine s c h) e
   where
     Goal : List Token → List ℕ → Type 0
-    Goal ts rest = Says s (c ∷ t) ts (10 ∷ rest) × All Good ts
+    Goal ts rest = Says s (c ∷ t) ts (10 ∷ rest) × AllByRecursion Good ts
 
     by_scan : (ks : List Token) (s' : State) → Fine s c (go ks s') → Spelt t → (x : Scanned) → scan s' (suc b) t ≡ x → put ks x ≡ line ts rest → Goal ts rest
     by_scan ks s' f ih (line us r) q e =
@@ -111,5 +111,5 @@ spelt (c ∷ t) s b ts rest h e = by_turn (spelt t) (turn s c) (fine s c h) e
     by_turn ih (go ks s') f e = by_scan ks s' f ih (scan s' (suc b) t) refl e
 
 -- a line that is scanned is its tokens, spelled out, and its runs are of their kind
-pub scanned_only : (t : List ℕ) (ts : List Token) (rest : List ℕ) → scan begin 1 t ≡ line ts rest → (t ≡ spelled false ts (10 ∷ rest)) × All Good ts
+pub scanned_only : (t : List ℕ) (ts : List Token) (rest : List ℕ) → scan begin 1 t ≡ line ts rest → (t ≡ spelled false ts (10 ∷ rest)) × AllByRecursion Good ts
 scanned_only t ts rest e = spelt t begin 1 ts rest tt e

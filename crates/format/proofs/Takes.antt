@@ -1,6 +1,6 @@
 -- The tokens of the writer's lines are taken for what was written.
 use Rattle.std.proofs.Common.{◌≡◌, ℕ, ◌≤◌, true, eqb, List, [], ◌∷◌, length, decimal, sym, refl, ap, subst, arith}
-use Rattle.std.specs.List.{AllByRecursion as All}
+use Rattle.std.specs.List.{AllByRecursion}
 use Rattle.std.proofs.lemmas.Bool.{cond_both, eqb-true, eqb-false, eq-eqb, and_from}
 use Rattle.format.specs.Plain.{Lane, Mark, beyond}
 use Rattle.format.specs.Form.{digits, Token, closed, hyphen, run}
@@ -30,16 +30,16 @@ value_takes x ks h = cond_both (eqb x beyond) hyphen (run digits (decimal x)) (�
     (λ q. ap (λ y. took y ks) (sym (eqb-true x beyond q)))
     (λ q. let ne = eqb-false x beyond q in ap (λ y. took y ks) (number_of x (omega arith)).reads_back)
 
-values_takes : (xs : List ℕ) (ks : List Token) → All (λ x. x ≤ beyond) xs → values (length xs) (values-tokens xs ks) ≡ took xs ks
+values_takes : (xs : List ℕ) (ks : List Token) → AllByRecursion (λ x. x ≤ beyond) xs → values (length xs) (values-tokens xs ks) ≡ took xs ks
 unfolding values
 values_takes [] ks h = refl
 values_takes (x ∷ xs) ks h = rw (value_takes x (values-tokens xs ks) h.0, values_takes xs ks h.1)
 
-table_takes : (w xs : List ℕ) (ks : List Token) → All (λ x. x ≤ beyond) xs → table w (length xs) (table-tokens w xs ks) ≡ took xs ks
+table_takes : (w xs : List ℕ) (ks : List Token) → AllByRecursion (λ x. x ≤ beyond) xs → table w (length xs) (table-tokens w xs ks) ≡ took xs ks
 unfolding table
 table_takes w xs ks h = rw (same_self w, values_takes xs (closed ∷ ks) h)
 
-pub mark_takes : (n : ℕ) (m : Mark) → length m.to ≡ n → All (λ x. x ≤ beyond) m.to → length m.from ≡ n → All (λ x. x ≤ beyond) m.from → mark_form n (mark-tokens m) ≡ took m []
+pub mark_takes : (n : ℕ) (m : Mark) → length m.to ≡ n → AllByRecursion (λ x. x ≤ beyond) m.to → length m.from ≡ n → AllByRecursion (λ x. x ≤ beyond) m.from → mark_form n (mark-tokens m) ≡ took m []
 unfolding mark_form
 mark_takes n m p to q from =
     let first : table to_word n (table-tokens to_word m.to (table-tokens from_word m.from (closed ∷ []))) ≡ took m.to (table-tokens from_word m.from (closed ∷ [])) =
@@ -50,13 +50,13 @@ mark_takes n m p to q from =
 
 -- their numbers are sound
 
-pub sound-triple : (w : List ℕ) (a b c : ℕ) → a ≤ 4294967294 → b ≤ 4294967294 → c ≤ 4294967294 → All Sound (triple-tokens w a b c)
+pub sound-triple : (w : List ℕ) (a b c : ℕ) → a ≤ 4294967294 → b ≤ 4294967294 → c ≤ 4294967294 → AllByRecursion Sound (triple-tokens w a b c)
 sound-triple w a b c ha hb hc = (tt, (tt, ((number_of a ha).fits, ((number_of b hb).fits, ((number_of c hc).fits, (tt, tt))))))
 
-sound-values : (xs : List ℕ) (ks : List Token) → All (λ x. x ≤ beyond) xs → All Sound ks → All Sound (values-tokens xs ks)
+sound-values : (xs : List ℕ) (ks : List Token) → AllByRecursion (λ x. x ≤ beyond) xs → AllByRecursion Sound ks → AllByRecursion Sound (values-tokens xs ks)
 sound-values [] ks h s = s
 sound-values (x ∷ xs) ks h s =
     (cond_both (eqb x beyond) hyphen (run digits (decimal x)) Sound (λ _. tt) (λ q. let ne = eqb-false x beyond q in let le = h.0 in (number_of x (omega arith)).fits), sound-values xs ks h.1 s)
 
-pub sound-mark : (m : Mark) → All (λ x. x ≤ beyond) m.to → All (λ x. x ≤ beyond) m.from → All Sound (mark-tokens m)
+pub sound-mark : (m : Mark) → AllByRecursion (λ x. x ≤ beyond) m.to → AllByRecursion (λ x. x ≤ beyond) m.from → AllByRecursion Sound (mark-tokens m)
 sound-mark m to from = (tt, (tt, (tt, (tt, sound-values m.to _ to (tt, (tt, (tt, sound-values m.from _ from (tt, (tt, tt)))))))))

@@ -1,6 +1,6 @@
 -- Tokens that are taken for a line of the file are those of the writer's line.
 use Rattle.std.proofs.Common.{◌≡◌, ℕ, zero, suc, ◌≤◌, Bool, true, false, cond, eqb, List, [], ◌∷◌, Some, decimal, refl, ap, subst, subst₂, arith}
-use Rattle.std.specs.List.{AllByRecursion as All}
+use Rattle.std.specs.List.{AllByRecursion}
 use Rattle.std.proofs.lemmas.Bool.{eqb-true, ne_eqb, and_parts}
 use Rattle.format.specs.Plain.{Lane, Mark, beyond, Table}
 use Rattle.format.specs.Form.{letters, digits, Token, opened, closed, hyphen, run}
@@ -62,9 +62,9 @@ says_only v (run letters w ∷ ts) u r e = by (same w v) refl e
 record IsNumber (ts : List Token) (n : ℕ) (r : List Token) : Type 0 where
   spelt : ts ≡ run digits (decimal n) ∷ r
   small : n ≤ 4294967294
-  fair : All Fair r
+  fair : AllByRecursion Fair r
 
-number_took : (ts : List Token) (n : ℕ) (r : List Token) → All Fair ts → number ts ≡ took n r → IsNumber ts n r
+number_took : (ts : List Token) (n : ℕ) (r : List Token) → AllByRecursion Fair ts → number ts ≡ took n r → IsNumber ts n r
 number_took [] n r h e = absurd (let z : ◌≡◌ {A = ℕ} 0 1 = cc in omega arith)
 number_took (opened ∷ ts) n r h e = absurd (let z : ◌≡◌ {A = ℕ} 0 1 = cc in omega arith)
 number_took (closed ∷ ts) n r h e = absurd (let z : ◌≡◌ {A = ℕ} 0 1 = cc in omega arith)
@@ -75,14 +75,14 @@ number_took (run digits w ∷ ts) n r h e =
     let p : reads 0 w ≡ n = cc in
     let q : ts ≡ r = cc in
     let d : decimal n ≡ w = subst (λ k. decimal k ≡ w) p o.0 in
-    record { spelt = cc; small = subst (λ k. k ≤ 4294967294) p o.1; fair = subst (All Fair) q h.1 }
+    record { spelt = cc; small = subst (λ k. k ≤ 4294967294) p o.1; fair = subst (AllByRecursion Fair) q h.1 }
 
 record IsValue (ts : List Token) (x : ℕ) (r : List Token) : Type 0 where
   spelt : ts ≡ value_token x ∷ r
   small : x ≤ beyond
-  fair : All Fair r
+  fair : AllByRecursion Fair r
 
-value_took : (ts : List Token) (x : ℕ) (r : List Token) → All Fair ts → value ts ≡ took x r → IsValue ts x r
+value_took : (ts : List Token) (x : ℕ) (r : List Token) → AllByRecursion Fair ts → value ts ≡ took x r → IsValue ts x r
 value_took [] x r h e = absurd (let z : ◌≡◌ {A = ℕ} 0 1 = cc in omega arith)
 value_took (opened ∷ ts) x r h e = absurd (let z : ◌≡◌ {A = ℕ} 0 1 = cc in omega arith)
 value_took (closed ∷ ts) x r h e = absurd (let z : ◌≡◌ {A = ℕ} 0 1 = cc in omega arith)
@@ -90,7 +90,7 @@ value_took (run letters w ∷ ts) x r h e = absurd (let z : ◌≡◌ {A = ℕ} 
 value_took (hyphen ∷ ts) x r h e =
     let p : beyond ≡ x = cc in
     let q : ts ≡ r = cc in
-    record { spelt = subst (λ k. hyphen ∷ ts ≡ value_token k ∷ r) p (ap (λ u. hyphen ∷ u) q); small = omega arith; fair = subst (All Fair) q h.1 }
+    record { spelt = subst (λ k. hyphen ∷ ts ≡ value_token k ∷ r) p (ap (λ u. hyphen ∷ u) q); small = omega arith; fair = subst (AllByRecursion Fair) q h.1 }
 value_took (run digits w ∷ ts) x r h e =
     let n = number_took (run digits w ∷ ts) x r h e in
     let s = n.small in
@@ -101,14 +101,14 @@ value_took (run digits w ∷ ts) x r h e =
 record AreValues (n : ℕ) (ts : List Token) (xs : List ℕ) (r : List Token) : Type 0 where
   spelt : ts ≡ values-tokens xs r
   table : Table n xs
-  fair : All Fair r
+  fair : AllByRecursion Fair r
 
-values_took : (n : ℕ) (ts : List Token) (xs : List ℕ) (r : List Token) → All Fair ts → values n ts ≡ took xs r → AreValues n ts xs r
+values_took : (n : ℕ) (ts : List Token) (xs : List ℕ) (r : List Token) → AllByRecursion Fair ts → values n ts ≡ took xs r → AreValues n ts xs r
 unfolding values
 values_took zero ts xs r h e =
     let p : [] ≡ xs = cc in
     let q : ts ≡ r = cc in
-    subst (λ ys. AreValues 0 ts ys r) p (record { spelt = q; table = (refl, tt); fair = subst (All Fair) q h })
+    subst (λ ys. AreValues 0 ts ys r) p (record { spelt = q; table = (refl, tt); fair = subst (AllByRecursion Fair) q h })
 values_took (suc n) ts xs r h e =
     let a = then_only (value ts) _ xs r e in
     let v = value_took ts a.mid a.left h a.was in
@@ -124,18 +124,18 @@ values_took (suc n) ts xs r h e =
 record IsTable (w : List ℕ) (n : ℕ) (ts : List Token) (xs : List ℕ) (r : List Token) : Type 0 where
   spelt : ts ≡ table-tokens w xs r
   table : Table n xs
-  fair : All Fair r
+  fair : AllByRecursion Fair r
 
-opens_fair : (ts : List Token) (u : Unit {0}) (r : List Token) → All Fair ts → opens ts ≡ took u r → (ts ≡ opened ∷ r) × All Fair r
-opens_fair ts u r h e = let p = opens_only ts u r e in (p, (subst (All Fair) p h).1)
+opens_fair : (ts : List Token) (u : Unit {0}) (r : List Token) → AllByRecursion Fair ts → opens ts ≡ took u r → (ts ≡ opened ∷ r) × AllByRecursion Fair r
+opens_fair ts u r h e = let p = opens_only ts u r e in (p, (subst (AllByRecursion Fair) p h).1)
 
-closes_fair : (ts : List Token) (u : Unit {0}) (r : List Token) → All Fair ts → closes ts ≡ took u r → (ts ≡ closed ∷ r) × All Fair r
-closes_fair ts u r h e = let p = closes_only ts u r e in (p, (subst (All Fair) p h).1)
+closes_fair : (ts : List Token) (u : Unit {0}) (r : List Token) → AllByRecursion Fair ts → closes ts ≡ took u r → (ts ≡ closed ∷ r) × AllByRecursion Fair r
+closes_fair ts u r h e = let p = closes_only ts u r e in (p, (subst (AllByRecursion Fair) p h).1)
 
-says_fair : (v : List ℕ) (ts : List Token) (u : Unit {0}) (r : List Token) → All Fair ts → says v ts ≡ took u r → (ts ≡ run letters v ∷ r) × All Fair r
-says_fair v ts u r h e = let p = says_only v ts u r e in (p, (subst (All Fair) p h).1)
+says_fair : (v : List ℕ) (ts : List Token) (u : Unit {0}) (r : List Token) → AllByRecursion Fair ts → says v ts ≡ took u r → (ts ≡ run letters v ∷ r) × AllByRecursion Fair r
+says_fair v ts u r h e = let p = says_only v ts u r e in (p, (subst (AllByRecursion Fair) p h).1)
 
-table_took : (w : List ℕ) (n : ℕ) (ts : List Token) (xs : List ℕ) (r : List Token) → All Fair ts → table w n ts ≡ took xs r → IsTable w n ts xs r
+table_took : (w : List ℕ) (n : ℕ) (ts : List Token) (xs : List ℕ) (r : List Token) → AllByRecursion Fair ts → table w n ts ≡ took xs r → IsTable w n ts xs r
 unfolding table
 table_took w n ts xs r h e =
     let a = then_only (opens ts) _ xs r e in
@@ -165,7 +165,7 @@ record IsTriple (w : List ℕ) (ts : List Token) (a : ℕ × ℕ × ℕ) (r : Li
   spelt : ts ≡ triple_before w a.0 a.1 a.2 r
   small : (a.0 ≤ 4294967294) × (a.1 ≤ 4294967294) × (a.2 ≤ 4294967294)
 
-triple_took : (w : List ℕ) (ts : List Token) (x : ℕ × ℕ × ℕ) (r : List Token) → All Fair ts → triple w ts ≡ took x r → IsTriple w ts x r
+triple_took : (w : List ℕ) (ts : List Token) (x : ℕ × ℕ × ℕ) (r : List Token) → AllByRecursion Fair ts → triple w ts ≡ took x r → IsTriple w ts x r
 unfolding triple
 triple_took w ts x end h e =
     let a = then_only (opens ts) _ x end e in
@@ -194,7 +194,7 @@ pub record IsPlant (ts : List Token) (n : Counts) : Type 0 where
   pub spelt : ts ≡ triple-tokens plant_word n.nodes n.lanes n.marks
   pub small : (n.nodes ≤ 4294967294) × (n.lanes ≤ 4294967294) × (n.marks ≤ 4294967294)
 
-pub plant_only : (ts : List Token) (n : Counts) → All Fair ts → all (plant_form ts) ≡ Some n → IsPlant ts n
+pub plant_only : (ts : List Token) (n : Counts) → AllByRecursion Fair ts → all (plant_form ts) ≡ Some n → IsPlant ts n
 unfolding plant_form
 plant_only ts n h e =
     let a = then_only (triple plant_word ts) _ n [] (all_only (plant_form ts) n e) in
@@ -210,7 +210,7 @@ plant_only ts n h e =
 pub record IsLane (ts : List Token) (l : Lane) : Type 0 where
   pub spelt : ts ≡ triple-tokens lane_word l.tail l.head l.cost
 
-pub lane_only : (ts : List Token) (l : Lane) → All Fair ts → all (lane_form ts) ≡ Some l → IsLane ts l
+pub lane_only : (ts : List Token) (l : Lane) → AllByRecursion Fair ts → all (lane_form ts) ≡ Some l → IsLane ts l
 unfolding lane_form
 lane_only ts l h e =
     let a = then_only (triple lane_word ts) _ l [] (all_only (lane_form ts) l e) in
@@ -227,7 +227,7 @@ pub record IsMark (n : ℕ) (ts : List Token) (m : Mark) : Type 0 where
   pub spelt : ts ≡ mark-tokens m
   pub tables : Table n m.to × Table n m.from
 
-pub mark_only : (n : ℕ) (ts : List Token) (x : Mark) → All Fair ts → all (mark_form n ts) ≡ Some x → IsMark n ts x
+pub mark_only : (n : ℕ) (ts : List Token) (x : Mark) → AllByRecursion Fair ts → all (mark_form n ts) ≡ Some x → IsMark n ts x
 unfolding mark_form
 mark_only n ts x h e =
     let a = then_only (opens ts) _ x [] (all_only (mark_form n ts) x e) in

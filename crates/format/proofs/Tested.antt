@@ -1,6 +1,6 @@
 -- The tests after the last line pass exactly when the plant is lawful, its tables' lengths and limits apart.
 use Rattle.std.proofs.Common.{◌≡◌, ℕ, suc, ◌≤◌, Bool, true, false, ltb, leb, List, [], ◌∷◌, length, get_or, Some, None, Option, refl, ap, ◌∙◌, arith}
-use Rattle.std.specs.List.{AllByRecursion as All}
+use Rattle.std.specs.List.{AllByRecursion}
 use Rattle.std.proofs.lemmas.Bool.{leb-true, le-leb, ltb-true, lt-ltb, and_parts, and_from}
 use Rattle.format.specs.Plain.{Lane, Mark, Plain, joined, Ends, EndsFrom, Kept}
 use Rattle.format.specs.Turns.{Fault}
@@ -12,8 +12,8 @@ pub record Passes (p : Plain) : Type 0 where
   pub few_lanes : length p.lanes ≤ 16384
   pub few_marks : length p.marks ≤ 16
   pub ends : EndsFrom p.nodes 0 p.lanes
-  pub cheap : All (λ (l : Lane). l.cost ≤ 1000000) p.lanes
-  pub kept : All (λ (m : Mark). All (Kept m) p.lanes) p.marks
+  pub cheap : AllByRecursion (λ (l : Lane). l.cost ≤ 1000000) p.lanes
+  pub kept : AllByRecursion (λ (m : Mark). AllByRecursion (Kept m) p.lanes) p.marks
 
 -- one test and the rest of the list
 step : {A : Type 0} (b : Bool) (x : Option A) (a : A) → b ≡ true → x ≡ None → elim b as (λ _. Option A) [ true ↦ x | false ↦ Some a ] ≡ None
@@ -44,12 +44,12 @@ none_ends n prev k (l ∷ ls) e =
     let p = stepped (fits_ends n prev l) (loose n l.tail (suc k) ls) k e in
     (fit_ends n prev l p.0, none_ends n l.tail (suc k) ls p.1)
 
-fit_none : {A : Type 0} (P : A → Type 0) (f : A → Bool) → ((x : A) → P x → f x ≡ true) → (k : ℕ) (xs : List A) → All P xs → failing f k xs ≡ None
+fit_none : {A : Type 0} (P : A → Type 0) (f : A → Bool) → ((x : A) → P x → f x ≡ true) → (k : ℕ) (xs : List A) → AllByRecursion P xs → failing f k xs ≡ None
 unfolding failing
 fit_none P f fit k [] h = refl
 fit_none P f fit k (x ∷ xs) h = step (f x) _ k (fit x h.0) (fit_none P f fit (suc k) xs h.1)
 
-none_fit : {A : Type 0} (P : A → Type 0) (f : A → Bool) → ((x : A) → f x ≡ true → P x) → (k : ℕ) (xs : List A) → failing f k xs ≡ None → All P xs
+none_fit : {A : Type 0} (P : A → Type 0) (f : A → Bool) → ((x : A) → f x ≡ true → P x) → (k : ℕ) (xs : List A) → failing f k xs ≡ None → AllByRecursion P xs
 unfolding failing
 none_fit P f fit k [] e = tt
 none_fit P f fit k (x ∷ xs) e = let p = stepped (f x) (failing f (suc k) xs) k e in (fit x p.0, none_fit P f fit (suc k) xs p.1)
@@ -61,7 +61,7 @@ fit_kept : (m : Mark) (l : Lane) → fits_table m l ≡ true → Kept m l
 fit_kept m l e =
     let p = and_parts (leb (get_or m.to l.tail 0) (joined l.cost (get_or m.to l.head 0))) _ e in (leb-true _ _ p.0, leb-true _ _ p.1)
 
-kept_none : (ls : List Lane) (m n : ℕ) (ms : List Mark) → All (λ (m : Mark). All (Kept m) ls) ms → contradicted ls m n ms ≡ None
+kept_none : (ls : List Lane) (m n : ℕ) (ms : List Mark) → AllByRecursion (λ (m : Mark). AllByRecursion (Kept m) ls) ms → contradicted ls m n ms ≡ None
 unfolding contradicted
 kept_none ls m n [] h = refl
 kept_none ls m n (x ∷ xs) h = rw (fit_none (Kept x) (fits_table x) (kept_fit x) 0 ls h.0) (kept_none ls (suc m) (suc n) xs h.1)
@@ -70,7 +70,7 @@ or_mark_none : (m n : ℕ) (o : Option ℕ) (more : Option Fault) → or_mark m 
 or_mark_none m n None more e = (refl, e)
 or_mark_none m n (Some k) more e = absurd (let z : ◌≡◌ {A = ℕ} 0 1 = cc in omega arith)
 
-none_kept : (ls : List Lane) (m n : ℕ) (ms : List Mark) → contradicted ls m n ms ≡ None → All (λ (m : Mark). All (Kept m) ls) ms
+none_kept : (ls : List Lane) (m n : ℕ) (ms : List Mark) → contradicted ls m n ms ≡ None → AllByRecursion (λ (m : Mark). AllByRecursion (Kept m) ls) ms
 unfolding contradicted
 none_kept ls m n [] e = tt
 none_kept ls m n (x ∷ xs) e =

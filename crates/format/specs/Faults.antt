@@ -2,7 +2,7 @@
 use Rattle.std.specs.Prelude.{ℕ, ◌+◌, ◌-◌, ◌^◌, min, Some, None, Ok, Err, Option, Result}
 use Rattle.plants.specs.declared.fault.PlantFault.{PlantFault}
 use Rattle.plants.specs.declared.fault.PlantFault.TheVariants.{Counts, Lengths, Ends, Cost, Index, Table}
-use Rattle.plants.specs.Told.{refusal_of as plant-refusal}
+use Rattle.plants.specs.Told.{refusal_of as plant_refusal}
 use Rattle.format.specs.declared.fault.ReadFault.{ReadFault}
 use Rattle.format.specs.declared.fault.ReadFault.TheVariants.{NoForm, Form, Number, Short, Plant}
 use Rattle.format.specs.declared.fault.Placed.{Placed}
@@ -36,7 +36,7 @@ read_refusal (NoForm line byte) = record { number = 13; layer = TextLayer; first
 read_refusal (Form line) = record { number = 14; layer = FormLayer; first = line; second = 0 }
 read_refusal (Number line byte) = record { number = 15; layer = FormLayer; first = line; second = byte }
 read_refusal Short = record { number = 8; layer = SearchLayer; first = 0; second = 0 }
-read_refusal (Plant fault line) = plant-refusal fault
+read_refusal (Plant fault line) = plant_refusal fault
 
 abbrev pub added_line : ReadFault → Option ℕ
 added_line (NoForm line byte) = None

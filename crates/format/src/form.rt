@@ -1,7 +1,7 @@
 // The parts of a form, taken one after another from a line that passed its tests.
 ghost use Rattle.std.specs.Prelude.{◌≡◌, ℕ, true, List, [], length, Decides};
 ghost use Rattle.format.specs.Form.{Token as Spelt};
-ghost use Rattle.format.specs.Items.{opens, closes, says, number as «a-number», value as «a-value», values, all, triple};
+ghost use Rattle.format.specs.Items.{opens, closes, says, number as a_number, value as a_value, values, all, triple};
 ghost use Rattle.format.specs.Places.{TokensAt, TookPast, TookNumber, ValuesAt, passed, numbers_of};
 
 use crate::next::next;
@@ -67,7 +67,7 @@ pub fn take_word(src: &[u8], line: Line, at: usize, text: &[u8]) -> Option<usize
 
 // A number.
 pub fn take_number(src: &[u8], line: Line, at: usize) -> Option<Taken>
-    ensures { (ts : List Spelt) → TokensAt src.now at ts → TookNumber src.now («a-number» ts) result }
+    ensures { (ts : List Spelt) → TokensAt src.now at ts → TookNumber src.now (a_number ts) result }
 {
     match next(src, line, at) {
         None => None,
@@ -86,7 +86,7 @@ pub fn take_number(src: &[u8], line: Line, at: usize) -> Option<Taken>
 
 // A table's value: a number, or a hyphen for beyond.
 pub fn take_value(src: &[u8], line: Line, at: usize) -> Option<Taken>
-    ensures { (ts : List Spelt) → TokensAt src.now at ts → TookNumber src.now («a-value» ts) result }
+    ensures { (ts : List Spelt) → TokensAt src.now at ts → TookNumber src.now (a_value ts) result }
 {
     match next(src, line, at) {
         None => None,

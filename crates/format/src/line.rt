@@ -1,7 +1,7 @@
 // The tests that every line has to pass, whatever it says: it is one form, and its numbers are sound.
 ghost use Rattle.std.specs.Prelude.{◌≡◌, ℕ, false, List, drop};
 ghost use Rattle.format.specs.Checked.{Checked};
-ghost use Rattle.format.specs.Form.{Token as Spelt, begin, line as «a-line», scan};
+ghost use Rattle.format.specs.Form.{Token as Spelt, begin, line as a_line, scan};
 ghost use Rattle.format.specs.Items.{sound_token, unsound};
 ghost use Rattle.format.specs.Told.{token_of};
 
@@ -29,7 +29,7 @@ fn is_sound(token: Token) -> bool
 
 // The first byte, from 1, of the line's first number that is refused.
 fn first_unsound(src: &[u8], line: Line) -> Option<usize>
-    ensures { (ts : List Spelt) (rest : List ℕ) → scan begin 1 (drop line.from src.now) ≡ «a-line» ts rest → unsound false 1 ts ≡ result }
+    ensures { (ts : List Spelt) (rest : List ℕ) → scan begin 1 (drop line.from src.now) ≡ a_line ts rest → unsound false 1 ts ≡ result }
 {
     let mut at = line.from;
     while at < src.len() {

@@ -4,7 +4,7 @@ use Rattle.plant.specs.declared.layers.shift.Shift.{Shift}
 use Rattle.plant.specs.declared.layers.shift.ShiftFault.{ShiftFault}
 use Rattle.plant.specs.declared.layers.shift.ShiftFault.TheVariants.{NoLane, Closed, Full, Open}
 use Rattle.plant.specs.declared.refusal.Refusal.{Refusal}
-use Rattle.plant.specs.declared.refusal.Layer.TheVariants.{Shift as shift-layer}
+use Rattle.plant.specs.declared.refusal.Layer.TheVariants.{Shift as shift_layer}
 use Rattle.plant.specs.Closed.{among}
 
 -- the numbers of the closed lanes, the latest first
@@ -25,7 +25,7 @@ abbrev pub reopen_fault : ℕ → List ℕ → ℕ → Option ShiftFault
 reopen_fault lanes closed n = cond (nat_lt n lanes) (cond (among closed n) None (Some (Open n))) (Some (NoLane n))
 
 abbrev told : ℕ → ℕ → Refusal
-told number n = record { number = number; layer = shift-layer; first = n; second = 0 }
+told number n = record { number = number; layer = shift_layer; first = n; second = 0 }
 
 abbrev pub refusal_of : ShiftFault → Refusal
 refusal_of (NoLane n) = told 9 n

@@ -2,7 +2,7 @@
 use Rattle.std.proofs.Common.{◌≡◌, ℕ, ◌-◌, ◌<◌, Bool, true, false, cond, ltb, List, [], ◌∷◌, ◌++◌, length, take, drop, Some, None, Option, sym, refl, ◌∙◌, subst, arith}
 use Rattle.std.proofs.lemmas.Bool.{both_ways, ltb-true, ltb-false}
 use Rattle.cost.specs.Kind.{Kind, Laws}
-use Rattle.plant.specs.declared.layers.shift.ShiftFault.TheVariants.{NoLane, Closed as closed-already, Full as closed-64, Open as not_closed}
+use Rattle.plant.specs.declared.layers.shift.ShiftFault.TheVariants.{NoLane, Closed as closed_already, Full as closed_64, Open as not_closed}
 use Rattle.plant.specs.Floor.{Floor, FloorLaws}
 use Rattle.plant.specs.Closed.{among, shut}
 use Rattle.plant.proofs.LayerFacts.{shut_laws}
@@ -45,12 +45,12 @@ module _ {C : Type 0} {k : Kind C} (laws : Laws k) {f : Floor C} (fl : FloorLaws
   step_close n = go (ltb n (length f.lanes)) refl (among closed n) refl (ltb (length closed) 64) refl
     where
       go : (a : Bool) → ltb n (length f.lanes) ≡ a → (b : Bool) → among closed n ≡ b → (c : Bool) → ltb (length closed) 64 ≡ c →
-          Stepped (Close n) (unless_shift (cond a (cond b (Some (closed-already n)) (cond c None (Some (closed-64 n)))) (Some (NoLane n))) (plain (Closed n)))
+          Stepped (Close n) (unless_shift (cond a (cond b (Some (closed_already n)) (cond c None (Some (closed_64 n)))) (Some (NoLane n))) (plain (Closed n)))
       go false p b q c r = record { right = λ _ _. CloseRight.lane_missing (ltb-false _ _ p) refl; next = held_mild events closed h (Close n) (Refused (Shift (NoLane n))) tt }
-      go true p true q c r = record { right = λ _ _. CloseRight.lane_shut (ltb-true _ _ p) ((h.exactly n).0 (among_in closed n q)) refl; next = held_mild events closed h (Close n) (Refused (Shift (closed-already n))) tt }
+      go true p true q c r = record { right = λ _ _. CloseRight.lane_shut (ltb-true _ _ p) ((h.exactly n).0 (among_in closed n q)) refl; next = held_mild events closed h (Close n) (Refused (Shift (closed_already n))) tt }
       go true p false q false r = record {
         right = λ _ _. CloseRight.shift_full (ltb-true _ _ p) (unshut n q) (record { lanes = closed; distinct = h.distinct; each = λ m. (h.exactly m).0; full = (let x = ltb-false (length closed) 64 r in let y = h.few in omega arith) }) refl;
-        next = held_mild events closed h (Close n) (Refused (Shift (closed-64 n))) tt;
+        next = held_mild events closed h (Close n) (Refused (Shift (closed_64 n))) tt;
       }
       go true p false q true r = record {
         right = λ _ _. CloseRight.accepted (ltb-true _ _ p) (unshut n q) (record { lanes = closed; all = λ m. (h.exactly m).1; few = ltb-true (length closed) 64 r }) refl;

@@ -2,7 +2,7 @@
 use Rattle.std.specs.Prelude.{◌≡◌, ℕ, ◌-◌, ◌<◌, ◌≤◌, cond, ◌↔◌, List, [], length, take, drop, Some, None, Option, ◌≢◌, nat_le, nat_lt}
 use Rattle.std.specs.List.{slice_get}
 use Rattle.cost.specs.Kind.{Kind}
-use Rattle.plant.specs.declared.layers.shift.ShiftFault.TheVariants.{NoLane, Closed as closed-already, Full as closed-64, Open as not_closed}
+use Rattle.plant.specs.declared.layers.shift.ShiftFault.TheVariants.{NoLane, Closed as closed_already, Full as closed_64, Open as not_closed}
 use Rattle.plant.specs.Floor.{Floor}
 use Rattle.plant.specs.Walk.{NoneBelow}
 use Rattle.search.specs.declared.call.Call.{Call}
@@ -29,8 +29,8 @@ use Rattle.search.specs.Moment.{Shut, Fewer, Full, Moment}
 pub data CloseRight {C : Type 0} (f : Floor C) (events : List (Event C)) (n : ℕ) (r : Reply C) : Type 0 where
   accepted : n < length f.lanes → (Shut events n → ⊥) → Fewer events → r ≡ Closed n → CloseRight f events n r
   lane_missing : length f.lanes ≤ n → r ≡ Refused (Shift (NoLane n)) → CloseRight f events n r
-  lane_shut : n < length f.lanes → Shut events n → r ≡ Refused (Shift (closed-already n)) → CloseRight f events n r
-  shift_full : n < length f.lanes → (Shut events n → ⊥) → Full events → r ≡ Refused (Shift (closed-64 n)) → CloseRight f events n r
+  lane_shut : n < length f.lanes → Shut events n → r ≡ Refused (Shift (closed_already n)) → CloseRight f events n r
+  shift_full : n < length f.lanes → (Shut events n → ⊥) → Full events → r ≡ Refused (Shift (closed_64 n)) → CloseRight f events n r
 
 -- a reopen is accepted exactly when the lane exists and is shut
 pub data ReopenRight {C : Type 0} (f : Floor C) (events : List (Event C)) (n : ℕ) (r : Reply C) : Type 0 where

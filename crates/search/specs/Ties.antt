@@ -1,6 +1,6 @@
 -- How the queue and the rows of a search hang together.
 use Rattle.std.specs.Prelude.{◌≡◌, ℕ, suc, ◌+◌, ◌<◌, ◌≤◌, true, cond, ◌⊎◌, List, [], ◌∷◌, length, ◌≢◌}
-use Rattle.std.specs.List.{ContainsAt as Has}
+use Rattle.std.specs.List.{ContainsAt}
 use Rattle.cost.specs.Kind.{Kind}
 use Rattle.plant.specs.declared.lane.Lane.{Lane}
 use Rattle.plant.specs.Floor.{Floor}
@@ -23,14 +23,14 @@ Live k rows e = ((row_at k rows e.node).state ≡ Labelled) × ((row_at k rows e
 
 -- every entry is of a node with a row, whose label is no more than the entry's
 pub record Noted {C : Type 0} (k : Kind C) (n : ℕ) (rows : List (Row C)) (es : List (Entry C)) : Type 0 where
-  pub within : (e : Entry C) → Has es e → e.node < n
-  pub lower : (e : Entry C) → Has es e → k.at_most (row_at k rows e.node).label e.label ≡ true
+  pub within : (e : Entry C) → ContainsAt es e → e.node < n
+  pub lower : (e : Entry C) → ContainsAt es e → k.at_most (row_at k rows e.node).label e.label ≡ true
 
 -- every labelled node has its entry, and every entry has the key of its node and label
 pub record Tied {C : Type 0} (k : Kind C) (f : Floor C) (goal : ℕ) (rows : List (Row C)) (es : List (Entry C)) : Type 0 where
   pub noted : Noted k f.nodes rows es
-  pub keyed : (e : Entry C) → Has es e → e.key ≡ k.join e.label (f.bound e.node goal)
-  pub has : (v : ℕ) → (row_at k rows v).state ≡ Labelled → Has es (entry_of k f goal (row_at k rows v) v)
+  pub keyed : (e : Entry C) → ContainsAt es e → e.key ≡ k.join e.label (f.bound e.node goal)
+  pub has : (v : ℕ) → (row_at k rows v).state ≡ Labelled → ContainsAt es (entry_of k f goal (row_at k rows v) v)
 
 pub record Front {C : Type 0} (k : Kind C) (f : Floor C) (goal : ℕ) (rows : List (Row C)) {r : Ghosts (Entry C)} (q : Queue (Entry C) r) : Type 0 where
   pub heap : Heaped (ahead_of k) q
@@ -38,14 +38,14 @@ pub record Front {C : Type 0} (k : Kind C) (f : Floor C) (goal : ℕ) (rows : Li
 
 -- e was the first live entry of es, and es' holds the live entries that are left
 pub record Next {C : Type 0} (k : Kind C) (rows : List (Row C)) (es es' : List (Entry C)) (e : Entry C) : Type 0 where
-  pub here : Has es e
+  pub here : ContainsAt es e
   pub live : Live k rows e
-  pub first : (y : Entry C) → Has es y → Live k rows y → ahead_of k e y ≡ true
-  pub kept : (y : Entry C) → Has es y → Live k rows y → (y ≡ e) ⊎ Has es' y
-  pub back : (y : Entry C) → Has es' y → Has es y
+  pub first : (y : Entry C) → ContainsAt es y → Live k rows y → ahead_of k e y ≡ true
+  pub kept : (y : Entry C) → ContainsAt es y → Live k rows y → (y ≡ e) ⊎ ContainsAt es' y
+  pub back : (y : Entry C) → ContainsAt es' y → ContainsAt es y
 
 abbrev pub NoneLive : {C : Type 0} → Kind C → List (Row C) → List (Entry C) → Type 0
-NoneLive {C} k rows es = (y : Entry C) → Has es y → Live k rows y → ⊥
+NoneLive {C} k rows es = (y : Entry C) → ContainsAt es y → Live k rows y → ⊥
 
 -- how many of the lanes leave a node that is not scanned
 abbrev pub left_of : {C : Type 0} → Kind C → List (Row C) → List (Lane C) → ℕ

@@ -2,11 +2,11 @@
 use Rattle.std.specs.Prelude.{ℕ}
 use Rattle.plant.specs.declared.refusal.Refusal.{Refusal}
 use Rattle.plant.specs.declared.refusal.Layer.TheVariants.{Search}
-use Rattle.plant.specs.Shifted.{refusal_of as shift-refusal-of}
+use Rattle.plant.specs.Shifted.{refusal_of as shift_refusal_of}
 use Rattle.search.specs.declared.fault.SearchFault.{SearchFault}
 use Rattle.search.specs.declared.fault.SearchFault.TheVariants.{Start, Goal, Rows, Queue, Route, Costs, Replies}
 use Rattle.search.specs.declared.reply.CallFault.{CallFault}
-use Rattle.search.specs.declared.reply.CallFault.TheVariants.{Search as search_fault, Shift as shift-fault}
+use Rattle.search.specs.declared.reply.CallFault.TheVariants.{Search as search_fault, Shift as shift_fault}
 
 abbrev told : ℕ → ℕ → Refusal
 told n place = record { number = n; layer = Search; first = place; second = 0 }
@@ -22,4 +22,4 @@ refusal_of Replies = told 8 0
 
 abbrev pub call_refusal_of : CallFault → Refusal
 call_refusal_of (search_fault x) = refusal_of x
-call_refusal_of (shift-fault x) = shift-refusal-of x
+call_refusal_of (shift_fault x) = shift_refusal_of x

@@ -1,5 +1,5 @@
 use Rattle.std.proofs.Common.{◌≡◌, ◌≤◌}
-use Rattle.std.specs.List.{ContainsAt as Has}
+use Rattle.std.specs.List.{ContainsAt}
 use Rattle.queue.specs.Held.{held, count, room, Heaped}
 use Rattle.search.specs.declared.entry.Entry.{Entry}
 use Rattle.search.specs.Steps.{ahead_of}
@@ -11,8 +11,8 @@ invariant-loop-e g l =
     Heaped (ahead_of g.C.CostKind.kind) l.queue
     × (room l.queue ≡ room l.initial.queue)
     × (count l.queue ≤ count l.initial.queue)
-    × ((y : Entry g.row.C.Denot) → Has (held l.queue) y → Has (held l.initial.queue) y)
-    × ((y : Entry g.row.C.Denot) → Has (held l.initial.queue) y → Live g.C.CostKind.kind l.rows y → Has (held l.queue) y)
+    × ((y : Entry g.row.C.Denot) → ContainsAt (held l.queue) y → ContainsAt (held l.initial.queue) y)
+    × ((y : Entry g.row.C.Denot) → ContainsAt (held l.initial.queue) y → Live g.C.CostKind.kind l.rows y → ContainsAt (held l.queue) y)
 
 abbrev pub decreases-loop-e : goal.decreases-loop-e
 decreases-loop-e g l = count l.queue
