@@ -1,4 +1,4 @@
--- The one_way search answers with the least cost, and scans only nodes that are worth it.
+-- The one-way search answers with the least cost, and scans only nodes that are worth it.
 use Rattle.std.proofs.Common.{◌≡◌, ℕ, ◌<◌, ◌⊎◌, ◌↔◌, List, sym, ◌∙◌, subst, inl, inr}
 use Rattle.cost.specs.Kind.{Kind, Laws}
 use Rattle.plant.specs.Floor.{Floor, FloorLaws}

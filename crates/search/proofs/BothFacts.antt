@@ -1,4 +1,4 @@
--- From the turns to the answer of a call of the two_way search.
+-- From the turns to the answer of a call of the two-way search.
 use Rattle.std.proofs.Common.{◌≡◌, ℕ, ◌<◌, ◌≤◌, Bool, true, false, cond, ltb, leb, List, [], length, take, Some, None, Option, sym, refl, ap, ◌∙◌, subst}
 use Rattle.std.proofs.lemmas.Bool.{both_ways, cond-true, cond-false, lt-ltb, le-ltb, lt-leb}
 use Rattle.cost.specs.Kind.{Kind, Laws}

@@ -1,4 +1,4 @@
--- The two parts of a two_way route, one written after the other.
+-- The two parts of a two-way route, one written after the other.
 use Rattle.std.proofs.Common.{◌≡◌, ℕ, suc, ◌+◌, ◌-◌, ◌<◌, ◌≤◌, List, [], ◌∷◌, ◌++◌, reverse, length, take, drop, sym, ap, ◌∙◌, arith, length-append, length-drop, take_all}
 use borrow.Rule.Slice.PartMut.{put_mid}
 use lib.Seq.{take-append_seam, take-append-add, drop-append-add}

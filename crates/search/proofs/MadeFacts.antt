@@ -157,6 +157,6 @@ made_told k f a closed at (Reopen n) = shift_told (reopen_fault (length f.lanes)
 made_told k f a closed at (One s t) = let F = shut k (among closed) f in search_told k F at (One s t) (one_way k F s t).cost (one_route k F s t) (search_fault f s t (too_short f a (a.places - at) (One s t)))
 made_told k f a closed at (Two s t) = let F = shut k (among closed) f in search_told k F at (Two s t) (two_way k F s t).met.cost (two_route k F s t) (search_fault f s t (too_short f a (a.places - at) (Two s t)))
 
--- a one_way search leaves the rows of the back side as they are
+-- a one-way search leaves the rows of the back side as they are
 pub one_far : {C : Type 0} (k : Kind C) (f : Floor C) (a : Areas) (closed : List ℕ) (at s t : ℕ) → (made k f a closed at (One s t)).far ≡ []
 one_far k f a closed at s t = let F = shut k (among closed) f in search_far k F at (One s t) (one_way k F s t).cost (one_route k F s t) (search_fault f s t (too_short f a (a.places - at) (One s t))) refl

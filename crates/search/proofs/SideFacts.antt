@@ -1,4 +1,4 @@
--- What holds of one side of the two_way search, and what it says of walks.
+-- What holds of one side of the two-way search, and what it says of walks.
 use Rattle.std.proofs.Common.{◌≡◌, ℕ, ◌<◌, true, false, ◌⊎◌, List, [], ◌∷◌, length, Some, sym, refl, ap, ◌∙◌, subst, inl, inr}
 use Rattle.std.specs.List.{slice_get}
 use Rattle.cost.specs.Kind.{Kind, Laws}

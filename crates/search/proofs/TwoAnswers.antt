@@ -1,4 +1,4 @@
--- The two_way search answers with the least cost, and scans only nodes that are worth it, from either end.
+-- The two-way search answers with the least cost, and scans only nodes that are worth it, from either end.
 use Rattle.std.proofs.Common.{◌≡◌, ℕ, ◌<◌, ◌≤◌, ◌⊎◌, length, sym, refl, subst, inl, inr}
 use Rattle.cost.specs.Kind.{Kind, Laws}
 use Rattle.plant.specs.Floor.{Floor, FloorLaws}

@@ -1,4 +1,4 @@
--- The route of the two_way search is that of a walk that costs what was met, and repeats no node.
+-- The route of the two-way search is that of a walk that costs what was met, and repeats no node.
 use Rattle.std.proofs.Common.{◌≡◌, ℕ, zero, suc, ◌*◌, ◌<◌, ◌≤◌, Bool, true, false, cond, eqb, List, [], ◌∷◌, ◌++◌, reverse, length, drop, Some, None, Option, sym, refl, ap, ◌∙◌, subst, inl, inr, arith}
 use mathlib.Core.List.{reverse_aux, reverse_aux-eq, reverse-reverse}
 use Rattle.std.proofs.lemmas.Bool.{cases_eq, both_ways, eqb-true}

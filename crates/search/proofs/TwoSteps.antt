@@ -1,4 +1,4 @@
--- One turn of the two_way search, under the outcome of its tests.
+-- One turn of the two-way search, under the outcome of its tests.
 use Rattle.std.proofs.Common.{◌≡◌, ℕ, suc, Bool, true, false, Some, None, Option, ap, ◌∙◌}
 use Rattle.cost.specs.Kind.{Kind}
 use Rattle.plant.specs.Floor.{Floor, out_of, turned}

@@ -1,4 +1,4 @@
--- The two_way search finds the least cost.
+-- The two-way search finds the least cost.
 use Rattle.std.proofs.Common.{◌≡◌, ℕ, zero, suc, ◌*◌, ◌<◌, Bool, true, false, cond, eqb, ◌⊎◌, Some, None, Option, sym, refl, ap, ◌∙◌, subst, inl, inr, arith}
 use Rattle.std.proofs.lemmas.Bool.{cases_eq, both_ways, eqb-true, eqb-false}
 use Rattle.cost.specs.Kind.{Kind, Laws}

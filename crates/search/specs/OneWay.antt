@@ -1,4 +1,4 @@
--- The one_way search: scan the first node by key until the goal is the first, or none is left.
+-- The one-way search: scan the first node by key until the goal is the first, or none is left.
 use Rattle.std.specs.Prelude.{ℕ, zero, suc, true, false, List, [], Some, None, ◌==◌}
 use Rattle.cost.specs.Kind.{Kind}
 use Rattle.plant.specs.Floor.{Floor}

@@ -1,4 +1,4 @@
--- What a call of the one_way search answers and leaves.
+-- What a call of the one-way search answers and leaves.
 use Rattle.std.specs.Prelude.{◌≡◌, ℕ, cond, List, [], length, take, drop, Some, None, Option, nat_le, nat_lt}
 use Rattle.cost.specs.Kind.{Kind}
 use Rattle.plant.specs.Floor.{Floor}

@@ -1,4 +1,4 @@
--- The two_way search: one side goes from the start and one from the goal, by turns, until no node can better the best route met.
+-- The two-way search: one side goes from the start and one from the goal, by turns, until no node can better the best route met.
 use Rattle.std.specs.Prelude.{ℕ, zero, suc, ◌*◌, true, false, cond, List, [], ◌∷◌, reverse, drop, Some, None, ◌==◌}
 use Rattle.std.specs.List.{slice_get}
 use Rattle.cost.specs.Kind.{Kind}

@@ -60,7 +60,7 @@ fn call_one<P: Plant>(
     }
 }
 
-// The answer of a two_way search whose route stands from `at` on.
+// The answer of a two-way search whose route stands from `at` on.
 fn tell_two<C: CostKind>(answer: AnswerBoth<C>, at: usize) -> Reply<C>
     ensures { result ≡ two_told at answer }
 {

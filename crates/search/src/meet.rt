@@ -1,4 +1,4 @@
-// Following lanes on one side of a two_way search: each node that is relabelled may be where the sides meet.
+// Following lanes on one side of a two-way search: each node that is relabelled may be where the sides meet.
 ghost use Rattle.std.specs.Prelude.{◌≡◌, ◌+◌, ◌<◌, ◌≤◌, length};
 ghost use Rattle.plant.specs.Floor.{FloorLaws, out_of};
 ghost use Rattle.queue.specs.Held.{count, room};

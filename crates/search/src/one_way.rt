@@ -1,4 +1,4 @@
-// The one_way search: A* from the start, step by step until the goal is the next node, or none is left.
+// The one-way search: A* from the start, step by step until the goal is the next node, or none is left.
 ghost use Rattle.std.specs.Prelude.{◌≡◌, suc, ◌+◌, ◌^◌, ◌<◌, ◌≤◌, length, take, IfOk, MatchResult};
 ghost use Rattle.plant.specs.Floor.{FloorLaws};
 ghost use Rattle.queue.specs.Held.{count, room};

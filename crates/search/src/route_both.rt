@@ -1,4 +1,4 @@
-// The route of a two_way search: to where the sides meet by the forward rows, and on by the backward rows.
+// The route of a two-way search: to where the sides meet by the forward rows, and on by the backward rows.
 ghost use Rattle.std.specs.Prelude.{◌≡◌, ◌<◌, ◌≤◌, length};
 ghost use Rattle.plant.specs.Floor.{FloorLaws};
 ghost use Rattle.search.specs.Lists.{onto};

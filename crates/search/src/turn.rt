@@ -1,4 +1,4 @@
-// One turn of one side of a two_way search: its first node is settled.
+// One turn of one side of a two-way search: its first node is settled.
 ghost use Rattle.std.specs.Prelude.{◌≡◌, ◌<◌, length, MatchOption};
 ghost use Rattle.plant.specs.Floor.{FloorLaws};
 ghost use Rattle.search.specs.Ties.{Ready, Taken};

@@ -1,4 +1,4 @@
-// The two sides of a two_way search by turns, from the first to the last.
+// The two sides of a two-way search by turns, from the first to the last.
 ghost use Rattle.std.specs.Prelude.{◌≡◌, suc, ◌*◌, ◌<◌, length};
 ghost use Rattle.plant.specs.Floor.{FloorLaws, turned};
 ghost use Rattle.search.specs.Ties.{Ready};

@@ -1,4 +1,4 @@
-// The two_way search: from the start and from the goal by turns, until no node can better the best route met.
+// The two-way search: from the start and from the goal by turns, until no node can better the best route met.
 ghost use Rattle.std.specs.Prelude.{◌≡◌, ◌<◌, ◌≤◌, length, take, IfOk, MatchResult};
 ghost use Rattle.plant.specs.Floor.{FloorLaws};
 ghost use Rattle.search.specs.Answer.{RightBoth};

@@ -1,4 +1,4 @@
--- Heads that passed the first tests are counted by first_in.
+-- Heads that passed the first tests are counted by first-in.
 use Rattle.std.proofs.Common.{sym, ◌∙◌, arith}
 use Rattle.plants.specs.Index.{firsts}
 use Rattle.plants.proofs.Same.{same_true}
