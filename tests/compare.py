@@ -1,7 +1,7 @@
 #!/usr/bin/env python3
 """Compares the program with tests/reference.py on random floors and damaged files, byte for byte.
 
-    tests/compare.py crates/router/out/router [COUNT [SEED]]
+    python3 tests/compare.py crates/router/out/router [COUNT [SEED]]
 """
 import random
 import subprocess
