@@ -4,7 +4,8 @@
 usage: python3 tools/respell.py [--list]    at the top of the repository
 
 A word is joined by `_`; in a lemma's name a dash stays where it joins the names of two definitions, as in `heads-append`.
-Names that Rattle makes from the source (goals, steps) and names in src/ are left alone. It stops where two names would fall together.
+Names that Rattle makes from the source (goals, steps) and names of the code are left alone. It prints the names that come to be spelled as another, and goes on.
+It takes a word of a comment for a name too, as in `two-way search`: those were put right by hand.
 """
 import glob
 import re
@@ -96,7 +97,7 @@ def main():
 
 
 def ghost(line, token, new):
-    """A line of src/: only names in clauses and ghost items, which alone have dashes within a word."""
+    """A line of src/, where only clauses, ghost items and comments have dashes within a word."""
     return token.sub(lambda m: new.get(m.group(1), m.group(1)), line)
 
 
