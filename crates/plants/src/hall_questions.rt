@@ -30,12 +30,12 @@ impl Plant for Hall<'_> {
             Some(head) => Some(Lane {
                 tail: v,
                 head,
-                cost: Class::of(self.cells[head as usize]),
+                cost: Class::from(self.cells[head as usize]),
             }),
             None => Some(Lane {
                 tail: v,
                 head: v,
-                cost: Class::of(255),
+                cost: Class::from(255),
             }),
         }
     }
@@ -83,9 +83,9 @@ impl Plant for Hall<'_> {
     fn bound(&self, v: u32, w: u32) -> Class {
         let nodes = self.rows * self.columns;
         if v >= nodes || w >= nodes || v == w {
-            return Class::of(0);
+            return Class::from(0);
         }
-        Class::of(self.cells[w as usize])
+        Class::from(self.cells[w as usize])
     }
 }
 

@@ -29,7 +29,7 @@ impl Plant for LanePlant<'_> {
             Some(Lane {
                 tail: lists.tails[i],
                 head: lists.heads[i],
-                cost: Length::of(lists.costs[i]),
+                cost: Length::from(lists.costs[i]),
             })
         } else {
             None
@@ -68,7 +68,7 @@ impl Plant for LanePlant<'_> {
 
     fn bound(&self, v: u32, w: u32) -> Length {
         if v >= self.nodes || w >= self.nodes {
-            return Length::of(0);
+            return Length::from(0);
         }
         let lists = self.lists;
         let nodes = self.nodes as usize;
@@ -77,7 +77,7 @@ impl Plant for LanePlant<'_> {
             let row = m * nodes;
             best = best.max(gap(lists, row + v as usize, row + w as usize));
         }
-        Length::of(best)
+        Length::from(best)
     }
 }
 
