@@ -1,5 +1,7 @@
 // A hall answers the questions of a plant, each in constant time.
 ghost use Rattle.std.specs.Prelude.{◌≡◌, ◌*◌, ◌<◌};
+ghost use Rattle.plants.specs.HallLaws.{hall_laws};
+ghost use Rattle.plants.specs.HallSides.{rows_of};
 ghost use Rattle.plants.specs.Hall.{neighbour, hall_floor};
 
 use crate::hall::Hall;
@@ -12,6 +14,8 @@ impl Plant for Hall<'_> {
     type Cost = Class;
 
     ghost floor = { hall_floor };
+
+    ghost lawful = { λ h. hall_laws _ _ _ (rows_of h) };
 
     fn node_count(&self) -> u32 {
         self.rows * self.columns

@@ -1,5 +1,7 @@
 // A lane plant answers the questions of a plant, each in constant time but the bound, which looks at each landmark.
 ghost use Rattle.std.specs.Prelude.{◌≡◌, ◌-◌, ◌<◌, max, length, slice_index};
+ghost use Rattle.plants.specs.LaidLaws.{laid_laws};
+ghost use Rattle.plants.specs.Lawful.{kept};
 ghost use Rattle.plants.specs.Laid.{floor_of};
 
 use crate::lane_plant::LanePlant;
@@ -13,6 +15,8 @@ impl Plant for LanePlant<'_> {
     type Cost = Length;
 
     ghost floor = { floor_of };
+
+    ghost lawful = { λ p. laid_laws _ _ _ (kept p) };
 
     fn node_count(&self) -> u32 {
         self.nodes

@@ -1,7 +1,7 @@
 -- The bound is the byte of the node to reach, or zero where the two are one or one is no node.
 use Rattle.std.proofs.Common.{sym, ◌∙◌, inl, inr}
-use Rattle.plants.proofs.HallLanes.{class_is}
-use Rattle.plants.proofs.HallLaws.{bound_none, bound_same, bound_other}
+use Rattle.plants.specs.HallLanes.{class_is}
+use Rattle.plants.specs.HallLaws.{bound_none, bound_same, bound_other}
 use Rattle.plants.proofs.hall_questions.HallPlant.bound.Goals as goal
 use Rattle.plants.proofs.hall_questions.HallPlant.bound.Goals.{then-v-nodes-via-then-v-nodes, then-v-nodes-via-else-v-nodes+then-w-nodes, then-v-nodes-via-else-v-nodes+else-w-nodes+then-v-w}
 

@@ -1,7 +1,7 @@
 -- A lane enters its tail's neighbour, or leads back to its tail.
 use Rattle.std.proofs.Common.{◌/◌, ◌%◌, sym, ◌∙◌, arith}
-use Rattle.plants.proofs.HallSides.{rows_of, neighbour_in}
-use Rattle.plants.proofs.HallLanes.{lane_entering, lane_leaving, lane_past}
+use Rattle.plants.specs.HallSides.{rows_of, neighbour_in}
+use Rattle.plants.specs.HallLanes.{lane_entering, lane_leaving, lane_past}
 use Rattle.plants.proofs.hall_questions.HallPlant.lane.Goals as goal
 
 pub returns-then-v-self : goal.returns-then-v-self

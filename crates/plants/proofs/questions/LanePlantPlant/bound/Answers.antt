@@ -3,9 +3,9 @@ use Rattle.std.proofs.Common.{◌≡◌, ℕ, ◌+◌, ◌*◌, ◌<◌, ◌≤�
 use Rattle.std.proofs.lemmas.Nat.{mul-add-lt}
 use Rattle.plants.specs.Columns.{columns}
 use Rattle.plants.specs.Laid.{greatest, shown}
-use Rattle.plants.proofs.Lawful.{kept}
-use Rattle.plants.proofs.Lanes.{metres_is}
-use Rattle.plants.proofs.Bounds.{bound_inside, bound_none, shown_at}
+use Rattle.plants.specs.Lawful.{kept}
+use Rattle.plants.specs.Lanes.{metres_is}
+use Rattle.plants.specs.Bounds.{bound_inside, bound_none, shown_at}
 use Rattle.plants.proofs.questions.LanePlantPlant.bound.Goals as goal
 use Rattle.plants.proofs.questions.LanePlantPlant.bound.Goals.{then-v-self-via-then-v-self, then-v-self-via-else-v-self+then-w-self}
 

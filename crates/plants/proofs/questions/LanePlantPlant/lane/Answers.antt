@@ -1,7 +1,7 @@
 -- A lane is what the columns have at its number.
 use Rattle.std.proofs.Common.{sym}
-use Rattle.plants.proofs.Lawful.{kept}
-use Rattle.plants.proofs.Lanes.{lane_is, lanes_past}
+use Rattle.plants.specs.Lawful.{kept}
+use Rattle.plants.specs.Lanes.{lane_is, lanes_past}
 use Rattle.plants.proofs.questions.LanePlantPlant.lane.Goals as goal
 
 pub returns-then-i-lists : goal.returns-then-i-lists
