@@ -4,7 +4,9 @@ use Rattle.std.proofs.Common.{ap, inl, inr, ⊎_elim, arith}
 use mathlib.Core.HLevel.{is_prop→PathP}
 use Rattle.std.proofs.Math.Bridge.{le_prop}
 use Rattle.std.proofs.lemmas.Bool.{leb-true, leb-false, le-leb, cases_lt, cond_both}
+use Rattle.std.specs.Ordering.{is_le, nat_cmp}
 use Rattle.cost.specs.Kind.{Laws}
+use Rattle.cost.specs.Ordered.{nat_ordered}
 use Rattle.cost.specs.Class.{class_kind}
 use Rattle.cost.specs.declared.class.Class.{Class}
 
@@ -37,3 +39,7 @@ class_laws = record {
       (λ e. le-leb _ _ (omega (arith, leb-true _ _ p, leb-false _ _ e)));
   shared = λ a b h c p q. le-leb _ _ (omega (arith, leb-true _ _ p, leb-true _ _ q));
 }
+
+-- the order of classes is that of their grades
+pub class_ordered : (a b : Class) → class_kind.at_most a b ≡ is_le (nat_cmp a.grade b.grade)
+class_ordered a b = nat_ordered a.grade b.grade

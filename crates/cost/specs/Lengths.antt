@@ -3,7 +3,9 @@ use Rattle.std.proofs.Common.{ap, inl, inr, ⊎_elim, arith}
 use mathlib.Core.HLevel.{is_prop→PathP}
 use Rattle.std.proofs.Math.Bridge.{le_prop}
 use Rattle.std.proofs.lemmas.Bool.{leb-true, le-leb, cases_lt}
+use Rattle.std.specs.Ordering.{is_le, nat_cmp}
 use Rattle.cost.specs.Kind.{Laws}
+use Rattle.cost.specs.Ordered.{nat_ordered}
 use Rattle.cost.specs.Length.{length_kind}
 use Rattle.cost.specs.declared.length.Length.{Length}
 
@@ -29,3 +31,7 @@ length_laws = record {
   rest_covers = λ a b c p. le-leb _ _ (omega (arith, leb-true _ _ p));
   shared = λ a b h c p q. le-leb _ _ (omega (arith, leb-true _ _ p, leb-true _ _ q));
 }
+
+-- the order of lengths is that of their metres
+pub length_ordered : (a b : Length) → length_kind.at_most a b ≡ is_le (nat_cmp a.metres b.metres)
+length_ordered a b = nat_ordered a.metres b.metres

@@ -3,3 +3,4 @@ pub mod Length
 pub mod Class
 pub mod Classes
 pub mod Lengths
+pub mod Ordered

@@ -1,17 +1,25 @@
 // Classes: grades of floor, of which a route has its worst.
 ghost use Rattle.std.specs.Prelude.{◌≡◌, ◌≤◌};
 
+use std::fmt;
+
 // A grade of floor, of which 255 means beyond. The invariant lets the laws speak of every value.
-#[derive(Clone, Copy)]
+#[derive(Clone, Copy, PartialEq, Eq, PartialOrd, Ord, Debug)]
 pub struct Class {
     pub grade: u8,
     ghost ok: { grade ≤ 255 },
 }
 
-impl Class {
-    pub fn of(grade: u8) -> Class
-        ensures { result.grade ≡ grade }
-    {
+impl From<u8> for Class {
+    ghost from_gives = { λ grade r. r.grade ≡ grade };
+
+    fn from(grade: u8) -> Class {
         Class { grade }
+    }
+}
+
+impl fmt::Display for Class {
+    fn fmt<W: fmt::Write>(&self, f: &mut fmt::Formatter<W>) -> fmt::Result {
+        write!(f, "{}", self.grade)
     }
 }

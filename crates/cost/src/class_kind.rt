@@ -1,6 +1,6 @@
 // Classes as a cost kind: the join is the greater, the rest the whole of what is greater.
 ghost use Rattle.cost.specs.Class.{class_kind};
-ghost use Rattle.cost.specs.Classes.{class_laws};
+ghost use Rattle.cost.specs.Classes.{class_laws, class_ordered};
 
 use crate::class::Class;
 use crate::kind::CostKind;
@@ -10,16 +10,14 @@ impl CostKind for Class {
 
     ghost lawful = { class_laws };
 
+    ghost ordered = { class_ordered };
+
     fn zero() -> Class {
         Class { grade: 0 }
     }
 
     fn beyond() -> Class {
         Class { grade: 255 }
-    }
-
-    fn at_most(self, other: Class) -> bool {
-        self.grade <= other.grade
     }
 
     fn join(self, other: Class) -> Class {

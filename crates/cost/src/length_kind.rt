@@ -1,6 +1,6 @@
 // Lengths as a cost kind: the join is the sum held at beyond, the rest a difference held at zero.
 ghost use Rattle.cost.specs.Length.{length_kind};
-ghost use Rattle.cost.specs.Lengths.{length_laws};
+ghost use Rattle.cost.specs.Lengths.{length_laws, length_ordered};
 
 use crate::kind::CostKind;
 use crate::length::Length;
@@ -10,16 +10,14 @@ impl CostKind for Length {
 
     ghost lawful = { length_laws };
 
+    ghost ordered = { length_ordered };
+
     fn zero() -> Length {
         Length { metres: 0 }
     }
 
     fn beyond() -> Length {
         Length { metres: 4294967295 }
-    }
-
-    fn at_most(self, other: Length) -> bool {
-        self.metres <= other.metres
     }
 
     fn join(self, other: Length) -> Length {

@@ -47,7 +47,7 @@ fn tell(
 fn survey_six(rt: &HostRuntime, hall: &Hall, start: u32) -> io::Result<()> {
     let mut rows = [blank_row(); 6];
     let mut queue = [no_entry(); 25];
-    let mut costs = [Class::of(0); 6];
+    let mut costs = [Class::from(0); 6];
     match survey_from(hall, start, &mut rows, &mut queue, &mut costs) {
         Ok(scanned) => {
             let [a, b, c, d, e, f] = costs;

@@ -1,4 +1,2 @@
-pub mod FloorFacts
-pub mod LayerFacts
 pub mod Among
 pub mod ShiftFacts

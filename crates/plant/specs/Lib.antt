@@ -2,3 +2,5 @@ pub mod Floor
 pub mod Walk
 pub mod Closed
 pub mod Shifted
+pub mod FloorFacts
+pub mod LayerFacts

@@ -7,6 +7,8 @@ impl<P: Plant> Plant for &P {
 
     ghost floor = { λ t. P.Plant.floor t.now };
 
+    ghost lawful = { λ t. P.Plant.lawful t.now };
+
     fn node_count(&self) -> u32 {
         (**self).node_count()
     }

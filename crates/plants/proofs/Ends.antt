@@ -6,13 +6,13 @@ use Rattle.plant.specs.Floor.{at_from}
 use Rattle.plants.specs.Columns.{Columns}
 use Rattle.plants.specs.Index.{below, places, firsts}
 use Rattle.plants.specs.Laid.{lanes_of}
-use Rattle.plants.proofs.Lawful.{Lawful}
+use Rattle.plants.specs.Lawful.{Lawful}
 use Rattle.plants.proofs.Counted.{count_places, no_places}
 use Rattle.plants.proofs.Counting.{below_length}
 use Rattle.plants.proofs.Each.{firsts_at}
 use Rattle.plants.proofs.Rising.{rising, row_at}
 use Rattle.plants.proofs.HeadRows.{grouped_at}
-use Rattle.plants.proofs.Lanes.{tail_places, head_places}
+use Rattle.plants.specs.Lanes.{tail_places, head_places}
 
 -- what the first-list of some ends has at a node, and past it
 record Span (first ends : List ℕ) (v : ℕ) : Type 0 where

@@ -6,10 +6,10 @@ use Rattle.cost.specs.declared.class.Class.{Class}
 use Rattle.plant.specs.declared.lane.Lane.{Lane}
 use Rattle.plant.specs.Floor.{into_of}
 use Rattle.plants.specs.Hall.{has_north, has_east, has_south, has_west, neighbour, lane_to, hall_lane, grid}
-use Rattle.plants.proofs.Picked.{Among, Listed, picked}
+use Rattle.plants.specs.Picked.{Among, Listed, picked}
 use Rattle.plants.proofs.Slots.{Slot, slot, kept, before, one_if, one_if_not, slot_at, slots_past, among_slots, listed_slot}
-use Rattle.plants.proofs.HallSides.{Rows, west_below, east_below, more_columns}
-use Rattle.plants.proofs.HallLanes.{lane_at, head_in}
+use Rattle.plants.specs.HallSides.{Rows, west_below, east_below, more_columns}
+use Rattle.plants.specs.HallLanes.{lane_at, head_in}
 
 -- the lanes that may lead into v, by rising number: from the north and the west, v's own that would leave the hall, from the east and the south
 abbrev pub into_slots : ℕ → ℕ → ℕ → List Slot

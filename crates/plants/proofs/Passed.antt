@@ -5,7 +5,7 @@ use Rattle.plants.specs.declared.fault.PlantFault.TheVariants.{Counts, Lengths, 
 use Rattle.plants.specs.Columns.{Columns, lane_count}
 use Rattle.plants.specs.Faults.{counts_fit, index_lengths_fit, lengths_fit, ends_fit, tail_before, first_failing, or_else, index_fault}
 use Rattle.plants.specs.Tally.{Within}
-use Rattle.plants.proofs.FirstFailing.{none_fails}
+use Rattle.plants.specs.FirstFailing.{none_fails}
 use Rattle.plants.proofs.Stages.{test_passed, walk_passes}
 
 pub record CountsFit (nodes lanes landmarks : ℕ) : Type 0 where

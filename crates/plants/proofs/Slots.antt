@@ -4,7 +4,7 @@ use mir.Val.{bool_byte}
 use Rattle.std.specs.List.{slice_get}
 use Rattle.std.proofs.lemmas.Option.{slice_get_past}
 use Rattle.std.proofs.lemmas.Bool.{false≢true}
-use Rattle.plants.proofs.Picked.{Among, Listed}
+use Rattle.plants.specs.Picked.{Among, Listed}
 
 pub record Slot : Type 0 where
   pub filled : Bool

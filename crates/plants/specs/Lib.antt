@@ -6,3 +6,15 @@ pub mod Lone
 pub mod Tally
 pub mod Told
 pub mod Hall
+pub mod Passing
+pub mod Lawful
+pub mod Lanes
+pub mod Bounds
+pub mod LaidLaws
+pub mod FirstFailing
+pub mod Same
+pub mod Numbered
+pub mod Picked
+pub mod HallSides
+pub mod HallLanes
+pub mod HallLaws

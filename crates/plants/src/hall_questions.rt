@@ -1,5 +1,7 @@
 // A hall answers the questions of a plant, each in constant time.
 ghost use Rattle.std.specs.Prelude.{◌≡◌, ◌*◌, ◌<◌};
+ghost use Rattle.plants.specs.HallLaws.{hall_laws};
+ghost use Rattle.plants.specs.HallSides.{rows_of};
 ghost use Rattle.plants.specs.Hall.{neighbour, hall_floor};
 
 use crate::hall::Hall;
@@ -12,6 +14,8 @@ impl Plant for Hall<'_> {
     type Cost = Class;
 
     ghost floor = { hall_floor };
+
+    ghost lawful = { λ h. hall_laws _ _ _ (rows_of h) };
 
     fn node_count(&self) -> u32 {
         self.rows * self.columns
@@ -30,12 +34,12 @@ impl Plant for Hall<'_> {
             Some(head) => Some(Lane {
                 tail: v,
                 head,
-                cost: Class::of(self.cells[head as usize]),
+                cost: Class::from(self.cells[head as usize]),
             }),
             None => Some(Lane {
                 tail: v,
                 head: v,
-                cost: Class::of(255),
+                cost: Class::from(255),
             }),
         }
     }
@@ -83,9 +87,9 @@ impl Plant for Hall<'_> {
     fn bound(&self, v: u32, w: u32) -> Class {
         let nodes = self.rows * self.columns;
         if v >= nodes || w >= nodes || v == w {
-            return Class::of(0);
+            return Class::from(0);
         }
-        Class::of(self.cells[w as usize])
+        Class::from(self.cells[w as usize])
     }
 }
 

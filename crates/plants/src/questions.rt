@@ -1,5 +1,7 @@
 // A lane plant answers the questions of a plant, each in constant time but the bound, which looks at each landmark.
 ghost use Rattle.std.specs.Prelude.{◌≡◌, ◌-◌, ◌<◌, max, length, slice_index};
+ghost use Rattle.plants.specs.LaidLaws.{laid_laws};
+ghost use Rattle.plants.specs.Lawful.{kept};
 ghost use Rattle.plants.specs.Laid.{floor_of};
 
 use crate::lane_plant::LanePlant;
@@ -13,6 +15,8 @@ impl Plant for LanePlant<'_> {
     type Cost = Length;
 
     ghost floor = { floor_of };
+
+    ghost lawful = { λ p. laid_laws _ _ _ (kept p) };
 
     fn node_count(&self) -> u32 {
         self.nodes
@@ -29,7 +33,7 @@ impl Plant for LanePlant<'_> {
             Some(Lane {
                 tail: lists.tails[i],
                 head: lists.heads[i],
-                cost: Length::of(lists.costs[i]),
+                cost: Length::from(lists.costs[i]),
             })
         } else {
             None
@@ -68,7 +72,7 @@ impl Plant for LanePlant<'_> {
 
     fn bound(&self, v: u32, w: u32) -> Length {
         if v >= self.nodes || w >= self.nodes {
-            return Length::of(0);
+            return Length::from(0);
         }
         let lists = self.lists;
         let nodes = self.nodes as usize;
@@ -77,7 +81,7 @@ impl Plant for LanePlant<'_> {
             let row = m * nodes;
             best = best.max(gap(lists, row + v as usize, row + w as usize));
         }
-        Length::of(best)
+        Length::from(best)
     }
 }
 

@@ -5,7 +5,7 @@ use Rattle.cost.specs.Kind.{Kind, Laws}
 use Rattle.plant.specs.declared.lane.Lane.{Lane}
 use Rattle.plant.specs.Floor.{Floor, FloorLaws, turned, blinded}
 use Rattle.plant.specs.Walk.{Walk, walk_cost, lane_cost, NoneBelow, Least}
-use Rattle.plant.proofs.FloorFacts.{turned_laws, blinded_laws}
+use Rattle.plant.specs.FloorFacts.{turned_laws, blinded_laws}
 use Rattle.search.specs.declared.entry.Entry.{Entry}
 use Rattle.search.specs.declared.row.Row.{Row}
 use Rattle.search.specs.declared.row.State.TheVariants.{Blank, Scanned}

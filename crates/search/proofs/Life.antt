@@ -7,7 +7,7 @@ use Rattle.cost.specs.Kind.{Kind, Laws}
 use Rattle.plant.specs.declared.lane.Lane.{Lane}
 use Rattle.plant.specs.Floor.{Floor, FloorLaws}
 use Rattle.plant.specs.Closed.{among, shut}
-use Rattle.plant.proofs.LayerFacts.{shut_none}
+use Rattle.plant.specs.LayerFacts.{shut_none}
 use Rattle.search.specs.declared.call.Call.{Call}
 use Rattle.search.specs.declared.reply.Reply.{Reply}
 use Rattle.search.specs.declared.row.Row.{Row}

@@ -8,7 +8,7 @@ use Rattle.plant.specs.declared.layers.shift.ShiftFault.{ShiftFault}
 use Rattle.plant.specs.Floor.{Floor}
 use Rattle.plant.specs.Closed.{among, shut}
 use Rattle.plant.specs.Shifted.{close_fault, reopen_fault}
-use Rattle.plant.proofs.LayerFacts.{length-shut}
+use Rattle.plant.specs.LayerFacts.{length-shut}
 use Rattle.search.specs.declared.answer.Answer.TheVariants.{Route, Beyond}
 use Rattle.search.specs.declared.call.Call.{Call}
 use Rattle.search.specs.declared.call.Call.TheVariants.{Close, Reopen, One, Two}

@@ -6,7 +6,7 @@ use Rattle.plant.specs.declared.lane.Lane.{Lane}
 use Rattle.plant.specs.Floor.{Floor}
 use Rattle.plant.specs.Walk.{walk_cost, lane_cost}
 use Rattle.plant.specs.Closed.{among, shut_lane, shut_lanes, shut}
-use Rattle.plant.proofs.LayerFacts.{over, nth-shut, length-shut}
+use Rattle.plant.specs.LayerFacts.{over, nth-shut, length-shut}
 use Rattle.search.specs.Lists.{In}
 use Rattle.search.specs.Calls.{Event}
 use Rattle.search.specs.Moment.{Shut, Moment}

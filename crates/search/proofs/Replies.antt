@@ -5,7 +5,7 @@ use Rattle.cost.specs.Kind.{Kind, Laws}
 use Rattle.plant.specs.declared.layers.shift.ShiftFault.TheVariants.{NoLane, Closed as closed_already, Full as closed_64, Open as not_closed}
 use Rattle.plant.specs.Floor.{Floor, FloorLaws}
 use Rattle.plant.specs.Closed.{among, shut}
-use Rattle.plant.proofs.LayerFacts.{shut_laws}
+use Rattle.plant.specs.LayerFacts.{shut_laws}
 use Rattle.search.specs.declared.call.Call.{Call}
 use Rattle.search.specs.declared.call.Call.TheVariants.{Close, Reopen, One, Two}
 use Rattle.search.specs.declared.fault.SearchFault.{SearchFault}

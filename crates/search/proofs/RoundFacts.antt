@@ -2,7 +2,7 @@
 use Rattle.std.proofs.Common.{◌≡◌, ℕ, suc, List, sym, ap, ◌∙◌}
 use Rattle.cost.specs.Kind.{Kind}
 use Rattle.plant.specs.Floor.{Floor, turned}
-use Rattle.plant.proofs.FloorFacts.{turned_twice}
+use Rattle.plant.specs.FloorFacts.{turned_twice}
 use Rattle.search.specs.declared.meeting.Meeting.{Meeting}
 use Rattle.search.specs.declared.row.Row.{Row}
 use Rattle.search.specs.Turns.{Stays, Goes}

@@ -7,7 +7,7 @@ use Rattle.cost.specs.Kind.{Kind, Laws}
 use Rattle.plant.specs.declared.lane.Lane.{Lane}
 use Rattle.plant.specs.Floor.{Floor, turn, turned}
 use Rattle.plant.specs.Walk.{Walk, walk_cost, lane_cost, lane_head, heads, route}
-use Rattle.plant.proofs.FloorFacts.{turned_lane}
+use Rattle.plant.specs.FloorFacts.{turned_lane}
 use Rattle.search.specs.declared.row.Row.{Row}
 use Rattle.search.specs.declared.row.State.{State}
 use Rattle.search.specs.declared.row.State.TheVariants.{Blank, Scanned}

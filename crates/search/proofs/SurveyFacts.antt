@@ -6,7 +6,7 @@ use Rattle.std.proofs.lemmas.Bool.{cond-true, cond-false, lt-ltb, le-ltb, lt-leb
 use Rattle.cost.specs.Kind.{Kind, Laws}
 use Rattle.plant.specs.Floor.{Floor, FloorLaws, blinded}
 use Rattle.plant.specs.Walk.{Least}
-use Rattle.plant.proofs.FloorFacts.{blinded_laws}
+use Rattle.plant.specs.FloorFacts.{blinded_laws}
 use Rattle.search.specs.declared.entry.Entry.{Entry}
 use Rattle.search.specs.declared.fault.SearchFault.{SearchFault}
 use Rattle.search.specs.declared.fault.SearchFault.TheVariants.{Start, Rows, Queue, Costs}

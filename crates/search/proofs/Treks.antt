@@ -5,7 +5,7 @@ use Rattle.cost.specs.Kind.{Kind, Laws}
 use Rattle.plant.specs.declared.lane.Lane.{Lane}
 use Rattle.plant.specs.Floor.{Floor, FloorLaws, turned, turn}
 use Rattle.plant.specs.Walk.{Walk, walk_cost, lane_cost}
-use Rattle.plant.proofs.FloorFacts.{lane_turned, turned_twice}
+use Rattle.plant.specs.FloorFacts.{lane_turned, turned_twice}
 use Rattle.search.specs.Order.{Le, le_trans, le_eq, le_mono_right, zero_join}
 
 -- a walk from v to z that costs c

@@ -5,7 +5,7 @@ use Rattle.std.proofs.lemmas.Bool.{cases_eq, both_ways}
 use Rattle.cost.specs.Kind.{Kind, Laws}
 use Rattle.plant.specs.declared.lane.Lane.{Lane}
 use Rattle.plant.specs.Floor.{Floor, FloorLaws, out_of, turned}
-use Rattle.plant.proofs.FloorFacts.{turned_twice, turned_laws}
+use Rattle.plant.specs.FloorFacts.{turned_twice, turned_laws}
 use Rattle.search.specs.declared.entry.Entry.{Entry}
 use Rattle.search.specs.declared.row.Row.{Row}
 use Rattle.search.specs.declared.row.State.{State}

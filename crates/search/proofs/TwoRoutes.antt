@@ -5,7 +5,7 @@ use Rattle.std.proofs.lemmas.Bool.{cases_eq, both_ways, eqb-true}
 use Rattle.cost.specs.Kind.{Kind, Laws}
 use Rattle.plant.specs.Floor.{Floor, FloorLaws, turned}
 use Rattle.plant.specs.Walk.{walk_cost, heads}
-use Rattle.plant.proofs.FloorFacts.{turned_twice, turned_laws}
+use Rattle.plant.specs.FloorFacts.{turned_twice, turned_laws}
 use Rattle.search.specs.declared.entry.Entry.{Entry}
 use Rattle.search.specs.declared.row.Row.{Row}
 use Rattle.search.specs.declared.row.State.{State}

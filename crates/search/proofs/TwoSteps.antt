@@ -2,7 +2,7 @@
 use Rattle.std.proofs.Common.{◌≡◌, ℕ, suc, Bool, true, false, Some, None, Option, ap, ◌∙◌}
 use Rattle.cost.specs.Kind.{Kind}
 use Rattle.plant.specs.Floor.{Floor, out_of, turned}
-use Rattle.plant.proofs.FloorFacts.{turned_twice}
+use Rattle.plant.specs.FloorFacts.{turned_twice}
 use Rattle.search.specs.declared.entry.Entry.{Entry}
 use Rattle.search.specs.declared.row.State.TheVariants.{Scanned, Dropped}
 use Rattle.search.specs.Rows.{is_scanned, row_at}

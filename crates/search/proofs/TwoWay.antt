@@ -4,7 +4,7 @@ use Rattle.std.proofs.lemmas.Bool.{cases_eq, both_ways, eqb-true, eqb-false}
 use Rattle.cost.specs.Kind.{Kind, Laws}
 use Rattle.plant.specs.Floor.{Floor, FloorLaws, turned}
 use Rattle.plant.specs.Walk.{Least}
-use Rattle.plant.proofs.FloorFacts.{turned_laws}
+use Rattle.plant.specs.FloorFacts.{turned_laws}
 use Rattle.search.specs.declared.entry.Entry.{Entry}
 use Rattle.search.specs.declared.row.Row.{Row}
 use Rattle.search.specs.declared.row.State.TheVariants.{Scanned}

@@ -1,6 +1,6 @@
 // Following lanes on one side of a two-way search: each node that is relabelled may be where the sides meet.
 ghost use Rattle.std.specs.Prelude.{◌≡◌, ◌+◌, ◌<◌, ◌≤◌, length};
-ghost use Rattle.plant.specs.Floor.{FloorLaws, out_of};
+ghost use Rattle.plant.specs.Floor.{out_of};
 ghost use Rattle.queue.specs.Held.{count, room};
 ghost use Rattle.search.specs.Ties.{Front};
 ghost use Rattle.search.specs.TwoWay.{meet, follow_meet, follow_all_meet, spread};
@@ -34,7 +34,6 @@ pub fn meet_lane<P: Plant>(
     queue: &mut Queue<Entry<P::Cost>>,
     met: Meeting<P::Cost>,
 ) -> Meeting<P::Cost>
-    requires laws { FloorLaws P.Cost.CostKind.kind (P.Plant.floor plant.now) }
     requires rows { length rows.old ≡ (P.Plant.floor plant.now).nodes }
     requires others { length others.now ≡ (P.Plant.floor plant.now).nodes }
     requires met { met.node < (P.Plant.floor plant.now).nodes }
@@ -70,7 +69,6 @@ pub fn meet_out<P: Plant>(
     queue: &mut Queue<Entry<P::Cost>>,
     met: Meeting<P::Cost>,
 ) -> Meeting<P::Cost>
-    requires laws { FloorLaws P.Cost.CostKind.kind (P.Plant.floor plant.now) }
     requires rows { length rows.old ≡ (P.Plant.floor plant.now).nodes }
     requires others { length others.now ≡ (P.Plant.floor plant.now).nodes }
     requires met { met.node < (P.Plant.floor plant.now).nodes }

@@ -1,6 +1,5 @@
 // The one-way search: A* from the start, step by step until the goal is the next node, or none is left.
 ghost use Rattle.std.specs.Prelude.{◌≡◌, suc, ◌+◌, ◌^◌, ◌<◌, ◌≤◌, length, take, IfOk, MatchResult};
-ghost use Rattle.plant.specs.Floor.{FloorLaws};
 ghost use Rattle.queue.specs.Held.{count, room};
 ghost use Rattle.search.specs.Steps.{count_scanned};
 ghost use Rattle.search.specs.OneWay.{one_from, one_way};
@@ -36,7 +35,6 @@ fn scan_all<P: Plant>(
     rows: &mut [Row<P::Cost>],
     queue: &mut Queue<Entry<P::Cost>>,
 ) -> Ending<P::Cost>
-    requires laws { FloorLaws P.Cost.CostKind.kind (P.Plant.floor plant.now) }
     requires rows { length rows.old ≡ (P.Plant.floor plant.now).nodes }
     requires front { Front P.Cost.CostKind.kind (P.Plant.floor plant.now) goal rows.old queue.old }
     requires room { count queue.old + left_of P.Cost.CostKind.kind rows.old (P.Plant.floor plant.now).lanes ≤ room queue.old }
@@ -78,7 +76,6 @@ pub(crate) fn run<P: Plant>(
     rows: &mut [Row<P::Cost>],
     slots: &mut [Entry<P::Cost>],
 ) -> Ending<P::Cost>
-    requires laws { FloorLaws P.Cost.CostKind.kind (P.Plant.floor plant.now) }
     requires rows { length rows.old ≡ (P.Plant.floor plant.now).nodes }
     requires few { length rows.old < 2 ^ 32 }
     requires start { start < (P.Plant.floor plant.now).nodes }
@@ -101,7 +98,6 @@ fn find<P: Plant>(
     slots: &mut [Entry<P::Cost>],
     route: &mut [u32],
 ) -> Answer<P::Cost>
-    requires laws { FloorLaws P.Cost.CostKind.kind (P.Plant.floor plant.now) }
     requires rows { length rows.old ≡ (P.Plant.floor plant.now).nodes }
     requires few { length rows.old < 2 ^ 32 }
     requires start { start < (P.Plant.floor plant.now).nodes }

@@ -1,6 +1,5 @@
 // The route of a two-way search: to where the sides meet by the forward rows, and on by the backward rows.
 ghost use Rattle.std.specs.Prelude.{◌≡◌, ◌<◌, ◌≤◌, length};
-ghost use Rattle.plant.specs.Floor.{FloorLaws};
 ghost use Rattle.search.specs.Lists.{onto};
 ghost use Rattle.search.specs.TwoWay.{joined};
 
@@ -20,7 +19,6 @@ pub(crate) fn write_both<P: Plant>(
     back: &[Row<P::Cost>],
     route: &mut [u32],
 ) -> usize
-    requires laws { FloorLaws P.Cost.CostKind.kind (P.Plant.floor plant.now) }
     requires rows { length rows.now ≡ (P.Plant.floor plant.now).nodes }
     requires back { length back.now ≡ (P.Plant.floor plant.now).nodes }
     requires via { via < (P.Plant.floor plant.now).nodes }

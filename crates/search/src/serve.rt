@@ -66,8 +66,6 @@ pub fn serve_on<P: Plant>(
     ensures made { MatchResult result (λ _. AllMade (served_from P.Cost.CostKind.kind (P.Plant.floor shift.old.below) (areas (length rows.old) (length queue.old) (length back_rows.old) (length back_queue.old) (length routes.old)) (closed_list shift.old) 0 calls.now) replies.old replies.new routes.old routes.new rows.old rows.new back_rows.old back_rows.new × (closed_list shift.new ≡ (served_from P.Cost.CostKind.kind (P.Plant.floor shift.old.below) (areas (length rows.old) (length queue.old) (length back_rows.old) (length back_queue.old) (length routes.old)) (closed_list shift.old) 0 calls.now).closed)) (λ _. (shift.new ≡ shift.old) × (rows.new ≡ rows.old) × (back_rows.new ≡ back_rows.old) × (queue.new ≡ queue.old) × (back_queue.new ≡ back_queue.old) × (replies.new ≡ replies.old) × (routes.new ≡ routes.old)) }
     ensures life { OnOk result (closed_list shift.old ≡ [] → Life P.Cost.CostKind.kind (P.Plant.floor shift.old.below) (areas (length rows.old) (length queue.old) (length back_rows.old) (length back_queue.old) (length routes.old)) calls.now (take (length calls.now) replies.new) routes.new × Held (past calls.now (take (length calls.now) replies.new) (length calls.now)) (closed_list shift.new)) }
 {
-    // every answer of a plant tells that its floor is lawful
-    shift.node_count();
     if replies.len() < calls.len() {
         return Err(SearchFault::Replies);
     }

@@ -1,6 +1,5 @@
 // The survey: the least cost from one node to every other, by the one-way steps with no bounds and no goal.
 ghost use Rattle.std.specs.Prelude.{◌≡◌, ◌<◌, ◌≤◌, map, length, MatchResult, OnOk};
-ghost use Rattle.plant.specs.Floor.{FloorLaws};
 ghost use Rattle.search.specs.Answer.{LeastExist};
 ghost use Rattle.search.specs.Lists.{onto};
 ghost use Rattle.search.specs.Steps.{count_scanned, label_of};
@@ -34,7 +33,6 @@ fn explore<P: Plant>(
     slots: &mut [Entry<P::Cost>],
     costs: &mut [P::Cost],
 ) -> u32
-    requires laws { FloorLaws P.Cost.CostKind.kind (P.Plant.floor plant.now) }
     requires rows { length rows.old ≡ (P.Plant.floor plant.now).nodes }
     requires start { start < (P.Plant.floor plant.now).nodes }
     requires room { length (P.Plant.floor plant.now).lanes < length slots.old }

@@ -1,6 +1,5 @@
 // One turn of one side of a two-way search: its first node is settled.
 ghost use Rattle.std.specs.Prelude.{◌≡◌, ◌<◌, length, MatchOption};
-ghost use Rattle.plant.specs.Floor.{FloorLaws};
 ghost use Rattle.search.specs.Ties.{Ready, Taken};
 ghost use Rattle.search.specs.Turns.{Settles, Stays, Gone};
 
@@ -34,7 +33,6 @@ fn settle_at<P: Plant>(
     queue: &mut Queue<Entry<P::Cost>>,
     met: Meeting<P::Cost>,
 ) -> Meeting<P::Cost>
-    requires laws { FloorLaws P.Cost.CostKind.kind (P.Plant.floor plant.now) }
     requires others { length others.now ≡ (P.Plant.floor plant.now).nodes }
     requires met { met.node < (P.Plant.floor plant.now).nodes }
     requires taken { Taken P.Cost.CostKind.kind (P.Plant.floor plant.now) target rows.old queue.old e }
@@ -67,7 +65,6 @@ pub(crate) fn take_turn<P: Plant>(
     queue: &mut Queue<Entry<P::Cost>>,
     met: Meeting<P::Cost>,
 ) -> Option<Went<P::Cost>>
-    requires laws { FloorLaws P.Cost.CostKind.kind (P.Plant.floor plant.now) }
     requires others { length others.now ≡ (P.Plant.floor plant.now).nodes }
     requires met { met.node < (P.Plant.floor plant.now).nodes }
     requires ready { Ready P.Cost.CostKind.kind (P.Plant.floor plant.now) target rows.old queue.old }

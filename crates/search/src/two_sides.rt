@@ -1,6 +1,6 @@
 // The two sides of a two-way search by turns, from the first to the last.
 ghost use Rattle.std.specs.Prelude.{◌≡◌, suc, ◌*◌, ◌<◌, length};
-ghost use Rattle.plant.specs.Floor.{FloorLaws, turned};
+ghost use Rattle.plant.specs.Floor.{turned};
 ghost use Rattle.search.specs.Ties.{Ready};
 ghost use Rattle.search.specs.TwoWay.{both_of, first_met, two_from, two_way};
 
@@ -25,7 +25,6 @@ fn take_turns<P: Plant>(
     back_queue: &mut Queue<Entry<P::Cost>>,
     met: Meeting<P::Cost>,
 ) -> Meeting<P::Cost>
-    requires laws { FloorLaws P.Cost.CostKind.kind (P.Plant.floor plant.now) }
     requires ready { Ready P.Cost.CostKind.kind (P.Plant.floor plant.now) goal rows.old queue.old }
     requires back { Ready P.Cost.CostKind.kind (turned (P.Plant.floor plant.now)) start back.old back_queue.old }
     requires met { met.node < (P.Plant.floor plant.now).nodes }
@@ -79,7 +78,6 @@ pub(crate) fn run_both<P: Plant>(
     back: &mut [Row<P::Cost>],
     back_slots: &mut [Entry<P::Cost>],
 ) -> Meeting<P::Cost>
-    requires laws { FloorLaws P.Cost.CostKind.kind (P.Plant.floor plant.now) }
     requires start { start < (P.Plant.floor plant.now).nodes }
     requires goal { goal < (P.Plant.floor plant.now).nodes }
     requires rows { length rows.old ≡ (P.Plant.floor plant.now).nodes }

@@ -1,6 +1,5 @@
 // The two-way search: from the start and from the goal by turns, until no node can better the best route met.
 ghost use Rattle.std.specs.Prelude.{◌≡◌, ◌<◌, ◌≤◌, length, take, IfOk, MatchResult};
-ghost use Rattle.plant.specs.Floor.{FloorLaws};
 ghost use Rattle.search.specs.Answer.{RightBoth};
 ghost use Rattle.search.specs.Lists.{onto};
 ghost use Rattle.search.specs.SearchedBoth.{two_fault, two_answer, two_nodes, both_cost, both_count, SearchedBoth};
@@ -30,7 +29,6 @@ fn find_both<P: Plant>(
     back_slots: &mut [Entry<P::Cost>],
     route: &mut [u32],
 ) -> AnswerBoth<P::Cost>
-    requires laws { FloorLaws P.Cost.CostKind.kind (P.Plant.floor plant.now) }
     requires start { start < (P.Plant.floor plant.now).nodes }
     requires goal { goal < (P.Plant.floor plant.now).nodes }
     requires rows { length rows.old ≡ (P.Plant.floor plant.now).nodes }

@@ -1,4 +1,5 @@
 // Blind: every bound zero, so that nodes go by their labels alone.
+ghost use Rattle.plant.specs.FloorFacts.{blinded_laws};
 ghost use Rattle.plant.specs.Floor.{blinded};
 
 use crate::lane::Lane;
@@ -14,6 +15,8 @@ impl<P: Plant> Plant for Blind<P> {
     type Cost = P::Cost;
 
     ghost floor = { λ t. blinded P.Cost.CostKind.kind (P.Plant.floor t.below) };
+
+    ghost lawful = { λ t. blinded_laws P.Cost.CostKind.lawful (P.Plant.lawful t.below) };
 
     fn node_count(&self) -> u32 {
         self.below.node_count()

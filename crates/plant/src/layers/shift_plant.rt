@@ -1,4 +1,5 @@
 // A shift as a plant.
+ghost use Rattle.plant.specs.LayerFacts.{shut_laws};
 ghost use Rattle.plant.specs.Closed.{shut};
 ghost use Rattle.plant.specs.Shifted.{is_shut};
 
@@ -11,6 +12,8 @@ impl<P: Plant> Plant for Shift<P> {
     type Cost = P::Cost;
 
     ghost floor = { λ t. shut P.Cost.CostKind.kind (is_shut t) (P.Plant.floor t.below) };
+
+    ghost lawful = { λ t. shut_laws P.Cost.CostKind.lawful (is_shut t) (P.Plant.lawful t.below) };
 
     fn node_count(&self) -> u32 {
         self.below.node_count()

@@ -1,4 +1,5 @@
 // Turned: every lane the other way round, as who goes back from the goal sees a floor.
+ghost use Rattle.plant.specs.FloorFacts.{turned_laws};
 ghost use Rattle.plant.specs.Floor.{turned};
 
 use crate::lane::Lane;
@@ -13,6 +14,8 @@ impl<P: Plant> Plant for Turned<P> {
     type Cost = P::Cost;
 
     ghost floor = { λ t. turned (P.Plant.floor t.below) };
+
+    ghost lawful = { λ t. turned_laws P.Cost.CostKind.lawful (P.Plant.lawful t.below) };
 
     fn node_count(&self) -> u32 {
         self.below.node_count()

@@ -3,7 +3,7 @@ use Rattle.std.proofs.Common.{length}
 use Rattle.std.proofs.lemmas.Bool.{le-leb, lt-leb}
 use Rattle.plants.specs.declared.fault.PlantFault.TheVariants.{Cost}
 use Rattle.plants.specs.Faults.{cost_fits}
-use Rattle.plants.proofs.FirstFailing.{walk_on, walk_stops}
+use Rattle.plants.specs.FirstFailing.{walk_on, walk_stops}
 use Rattle.plants.proofs.check.check_costs.Goals as goal
 
 pub returns-then-costs-k-gt1000000 : goal.returns-then-costs-k-gt1000000

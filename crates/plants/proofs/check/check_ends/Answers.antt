@@ -2,7 +2,7 @@
 use Rattle.std.proofs.Common.{length, sym, ◌∙◌}
 use Rattle.plants.specs.declared.fault.PlantFault.TheVariants.{Ends}
 use Rattle.plants.specs.Faults.{ends_fit}
-use Rattle.plants.proofs.FirstFailing.{walk_on, walk_stops}
+use Rattle.plants.specs.FirstFailing.{walk_on, walk_stops}
 use Rattle.plants.proofs.check.check_ends.Goals as goal
 
 pub returns-then-not-fits_ends : goal.returns-then-not-fits_ends

@@ -2,7 +2,7 @@
 use Rattle.std.proofs.Common.{length, sym, ◌∙◌}
 use Rattle.plants.specs.declared.fault.PlantFault.TheVariants.{Table}
 use Rattle.plants.specs.Faults.{table_fits}
-use Rattle.plants.proofs.FirstFailing.{walk_on, walk_stops}
+use Rattle.plants.specs.FirstFailing.{walk_on, walk_stops}
 use Rattle.plants.proofs.check.check_landmark.Goals as goal
 
 pub returns-then-not-fits_table : goal.returns-then-not-fits_table

@@ -1,7 +1,7 @@
 -- Heads that passed the first tests are counted by first-in.
 use Rattle.std.proofs.Common.{sym, ◌∙◌, arith}
 use Rattle.plants.specs.Index.{firsts}
-use Rattle.plants.proofs.Same.{same_true}
+use Rattle.plants.specs.Same.{same_true}
 use Rattle.plants.proofs.make.check_index.Goals as goal
 
 pub fits_groups-requires : goal.fits_groups-requires

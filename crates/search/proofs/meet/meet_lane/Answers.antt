@@ -9,18 +9,18 @@ use Rattle.search.proofs.meet.meet_lane.Goals as goal
 pub note-requires : goal.note-requires
 note-requires g c = record {
   rows = c.requires.rows;
-  node = c.requires.laws.head_node c.args.k c.in-Some.l (sym c.in-Some.ensures);
+  node = (g.met.P.Plant.lawful c.args.plant.now).head_node c.args.k c.in-Some.l (sym c.in-Some.ensures);
   front = c.requires.front;
   room = c.requires.room;
 }
 
 pub offset_bounds-others-l : goal.offset_bounds-others-l
 offset_bounds-others-l g c =
-    let h : c.in-Some.l.head < length c.args.others.now = omega (arith, c.requires.others, c.requires.laws.head_node c.args.k c.in-Some.l (sym c.in-Some.ensures)) in
+    let h : c.in-Some.l.head < length c.args.others.now = omega (arith, c.requires.others, (g.met.P.Plant.lawful c.args.plant.now).head_node c.args.k c.in-Some.l (sym c.in-Some.ensures)) in
     search rules
 
 pub bounds-others-l : goal.bounds-others-l
-bounds-others-l g c = omega (arith, c.requires.others, c.requires.laws.head_node c.args.k c.in-Some.l (sym c.in-Some.ensures))
+bounds-others-l g c = omega (arith, c.requires.others, (g.met.P.Plant.lawful c.args.plant.now).head_node c.args.k c.in-Some.l (sym c.in-Some.ensures))
 
 pub returns-then-note : goal.returns-then-note
 returns-then-note g c =
@@ -28,7 +28,7 @@ returns-then-note g c =
     let f = g.P.Plant.floor c.args.plant.now in
     let l = c.in-Some.l in
     let there = sym c.in-Some.ensures in
-    let inside : l.head < f.nodes = c.requires.laws.head_node c.args.k l there in
+    let inside : l.head < f.nodes = (g.met.P.Plant.lawful c.args.plant.now).head_node c.args.k l there in
     let told = c.note.ensures in
     let row : row_at k c.args.others.now l.head ≡ c.index-others-l.result = row_read k c.args.others.now l.head c.index-others-l.result (omega (arith, c.requires.others, inside)) c.index-others-l.is in
     let best : c.best_of.result ≡ meet k (k.join c.join-label.result (row_at k c.args.others.now l.head).label) l.head c.args.met =
@@ -58,7 +58,7 @@ returns-else-note g c =
 pub returns-in-None : goal.returns-in-None
 returns-in-None g c =
     let f = g.P.Plant.floor c.args.plant.now in
-    let h : 0 < length c.args.rows.now = omega (arith, c.requires.rows, c.requires.laws.some_node) in
+    let h : 0 < length c.args.rows.now = omega (arith, c.requires.rows, (g.met.P.Plant.lawful c.args.plant.now).some_node) in
     record {
       spread = meet_none g.P.Cost.CostKind.kind f c.args.others.now c.args.from g.met.P.Cost.CostKind.lawful c.args.rows.now c.args.met c.args.k h (sym c.in-None.ensures);
       met = c.requires.met;

@@ -14,7 +14,6 @@ meet_lane-met-requires g c =
     let l = c.loop-j in
     let h : l.j < length is = nth_within is l.j c.in-Some.k (sym c.in-Some.ensures) in
     record {
-      laws = c.requires.laws;
       rows = l.auto.rows ∙ c.requires.rows;
       others = c.requires.others;
       met = l.invariant.5;

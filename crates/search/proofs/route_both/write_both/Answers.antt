@@ -1,7 +1,7 @@
 use Rattle.std.proofs.Common.{◌≡◌, ℕ, ◌+◌, ◌-◌, ◌<◌, ◌≤◌, List, [], length, take, drop, sym, ap, ◌∙◌, arith, length-drop}
 use Rattle.std.proofs.lemmas.List.{length-reverse, length-take-le}
 use Rattle.plant.specs.Floor.{turned}
-use Rattle.plant.proofs.FloorFacts.{turned_laws}
+use Rattle.plant.specs.FloorFacts.{turned_laws}
 use Rattle.search.specs.Lists.{onto}
 use Rattle.search.specs.Steps.{trace}
 use Rattle.search.proofs.JoinFacts.{before, trace_last, trace_back, joined_parts, joined_length, first_count, both_written}
@@ -16,7 +16,7 @@ overflow_sub-from g c =
     let via = c.args.via in
     let rows = c.args.rows.now in
     let back = c.args.back.now in
-    let some = c.requires.laws.some_node in
+    let some = (g.met.P.Plant.lawful c.args.plant.now).some_node in
     let n = c.write_route-from.result in
     let xs = c.write_route-from.new.route in
     let told = c.write_route-from.ensures in
@@ -35,7 +35,7 @@ walk_back-more-requires g c =
     let via = c.args.via in
     let rows = c.args.rows.now in
     let back = c.args.back.now in
-    let some = c.requires.laws.some_node in
+    let some = (g.met.P.Plant.lawful c.args.plant.now).some_node in
     let n = c.write_route-from.result in
     let xs = c.write_route-from.new.route in
     let told = c.write_route-from.ensures in
@@ -45,7 +45,7 @@ walk_back-more-requires g c =
     let count : n ≡ length front + 1 = first_count n 0 xs [] [] front [] via h e in
     let whole = joined_length k f start goal rows back via some in
     let part : length (take (length xs - (n - 1)) (drop (n - 1) xs)) ≡ length xs - (n - 1) = length-take-le (length xs - (n - 1)) (drop (n - 1) xs) (omega (arith, length-drop (n - 1) xs)) in
-    record { laws = turned_laws g.met.P.Cost.CostKind.lawful c.requires.laws; rows = c.requires.back; goal = c.requires.via; route = omega (arith, part, whole, count, c.requires.short, c.requires.route, c.write_route-from.auto.route) }
+    record { rows = c.requires.back; goal = c.requires.via; route = omega (arith, part, whole, count, c.requires.short, c.requires.route, c.write_route-from.auto.route) }
 
 pub returns : goal.returns
 returns g c =
@@ -56,7 +56,7 @@ returns g c =
     let via = c.args.via in
     let rows = c.args.rows.now in
     let back = c.args.back.now in
-    let some = c.requires.laws.some_node in
+    let some = (g.met.P.Plant.lawful c.args.plant.now).some_node in
     let n = c.write_route-from.result in
     let xs = c.write_route-from.new.route in
     let told = c.write_route-from.ensures in

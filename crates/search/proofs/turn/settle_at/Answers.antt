@@ -21,7 +21,7 @@ returns-then-is_scanned g c =
     record {
       settles = skipped k f c.args.source rows c.mark_as.new.rows others c.args.last e met there marked;
       met = c.requires.met;
-      ready = skipped_ready k laws f c.requires.laws c.args.target rows c.args.queue.now e t c.mark_as.new.rows marked;
+      ready = skipped_ready k laws f (g.met.P.Plant.lawful c.args.plant.now) c.args.target rows c.args.queue.now e t c.mark_as.new.rows marked;
     }
 
 pub returns-then-at_most : goal.returns-then-at_most
@@ -42,7 +42,7 @@ returns-then-at_most g c =
     record {
       settles = dropped k f c.args.source rows c.mark_as-then-at_most.new.rows others c.args.last e met apart c.join.result is far marked;
       met = c.requires.met;
-      ready = dropped_ready k laws f c.requires.laws c.args.target rows c.args.queue.now e t c.mark_as-then-at_most.new.rows marked;
+      ready = dropped_ready k laws f (g.met.P.Plant.lawful c.args.plant.now) c.args.target rows c.args.queue.now e t c.mark_as-then-at_most.new.rows marked;
     }
 
 pub meet_out-requires : goal.meet_out-requires
@@ -57,12 +57,11 @@ meet_out-requires g c =
     let target = c.args.target in
     let marked = c.mark_as-2.ensures in
     record {
-      laws = c.requires.laws;
-      rows = out_long k laws f c.requires.laws target rows q e t c.mark_as-2.new.rows marked;
+      rows = out_long k laws f (g.met.P.Plant.lawful c.args.plant.now) target rows q e t c.mark_as-2.new.rows marked;
       others = c.requires.others;
       met = c.requires.met;
-      front = out_front k laws f c.requires.laws target rows q e t c.mark_as-2.new.rows marked;
-      room = out_room k laws f c.requires.laws target rows q e t c.mark_as-2.new.rows marked;
+      front = out_front k laws f (g.met.P.Plant.lawful c.args.plant.now) target rows q e t c.mark_as-2.new.rows marked;
+      room = out_room k laws f (g.met.P.Plant.lawful c.args.plant.now) target rows q e t c.mark_as-2.new.rows marked;
     }
 
 pub returns : goal.returns
@@ -84,5 +83,5 @@ returns g c =
     record {
       settles = followed k f c.args.source rows c.meet_out.new.rows others c.args.last e met apart c.join.result is near c.mark_as-2.new.rows c.meet_out.result marked told.spread;
       met = told.met;
-      ready = followed_ready k laws f c.requires.laws c.args.target rows c.args.queue.now e t c.mark_as-2.new.rows marked others c.meet_out.new.rows met c.meet_out.result c.meet_out.new.queue told.spread told.front told.count told.room;
+      ready = followed_ready k laws f (g.met.P.Plant.lawful c.args.plant.now) c.args.target rows c.args.queue.now e t c.mark_as-2.new.rows marked others c.meet_out.new.rows met c.meet_out.result c.meet_out.new.queue told.spread told.front told.count told.room;
     }

@@ -44,7 +44,6 @@ settle_at-met-requires g c =
     let told = c.in-Some.ensures in
     let within = tied.noted.within e told.next.here in
     record {
-      laws = c.requires.laws;
       others = c.requires.others;
       met = c.requires.met;
       taken = record {

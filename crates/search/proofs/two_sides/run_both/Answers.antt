@@ -22,9 +22,8 @@ take_turns-requires g c =
     let k = g.P.Cost.CostKind.kind in
     let f = g.P.Plant.floor c.args.plant.now in
     let start = c.args.start in
-    let within = cond_both (eqb start c.args.goal) (record { cost = k.zero; node = start }) (record { cost = k.beyond; node = 0 }) (λ (m : Meeting g.row.P-Cost.Denot). m.node < f.nodes) (λ _. c.requires.start) (λ _. c.requires.laws.some_node) in
+    let within = cond_both (eqb start c.args.goal) (record { cost = k.zero; node = start }) (record { cost = k.beyond; node = 0 }) (λ (m : Meeting g.row.P-Cost.Denot). m.node < f.nodes) (λ _. c.requires.start) (λ _. (g.met.P.Plant.lawful c.args.plant.now).some_node) in
     record {
-      laws = c.requires.laws;
       ready = c.begin.ensures.ready;
       back = c.begin-2.ensures.ready;
       met = subst (λ (m : Meeting g.row.P-Cost.Denot). m.node < f.nodes) (sym c.first_meeting-met.ensures) within;

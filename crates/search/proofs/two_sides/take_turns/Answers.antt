@@ -1,5 +1,5 @@
 use Rattle.std.proofs.Common.{◌≡◌, suc, ◌+◌, ◌-◌, ◌*◌, sym, ◌∙◌, arith}
-use Rattle.plant.proofs.FloorFacts.{turned_laws}
+use Rattle.plant.specs.FloorFacts.{turned_laws}
 use Rattle.search.specs.TwoWay.{both_of, two_from}
 use Rattle.search.proofs.RoundFacts.{told, ends_forward, ends_between, ends_back, round}
 use Rattle.search.proofs.two_sides.take_turns.Goals as goal
@@ -23,7 +23,7 @@ returns-in_default g c =
     let x = inv.3.0 in
     let whole = two_from k f start goal (suc (2 * n)) (both_of c.args.rows.now k.zero c.args.back.now k.zero c.args.met) in
     let i = l.counter in
-    let fuel : suc (2 * n) - 2 * i ≡ suc (suc (suc (2 * n) - 2 * (i + 1))) = omega (arith, c.loop-test.true, c.node_count-end.ensures.counts) in
+    let fuel : suc (2 * n) - 2 * i ≡ suc (suc (suc (2 * n) - 2 * (i + 1))) = omega (arith, c.loop-test.true, c.node_count-end.ensures) in
     let stop = c.in_default.ensures in
     let all = told whole l.rows l.back x l.back_last l.met (sym inv.3.1 ∙ ends_forward k f start goal l.rows l.back x l.back_last l.met (suc (2 * n) - 2 * i) (suc (suc (2 * n) - 2 * (i + 1))) fuel stop.1) in
     record { rows = stop.0 ∙ all.0; back = all.1; met = all.2; within = inv.2 }
@@ -31,7 +31,7 @@ returns-in_default g c =
 pub take_turn-requires-in-loop : goal.take_turn-requires-in-loop
 take_turn-requires-in-loop g c =
     let went = c.in-Some.ensures in
-    record { laws = turned_laws g.met.P.Cost.CostKind.lawful c.requires.laws; others = went.ready.long; met = went.within; ready = c.loop.invariant.1 }
+    record { others = went.ready.long; met = went.within; ready = c.loop.invariant.1 }
 
 pub returns-in_default-take_turn : goal.returns-in_default-take_turn
 returns-in_default-take_turn g c =
@@ -45,7 +45,7 @@ returns-in_default-take_turn g c =
     let x = inv.3.0 in
     let whole = two_from k f start goal (suc (2 * n)) (both_of c.args.rows.now k.zero c.args.back.now k.zero c.args.met) in
     let i = l.counter in
-    let fuel : suc (2 * n) - 2 * i ≡ suc (suc (suc (2 * n) - 2 * (i + 1))) = omega (arith, c.loop-test.true, c.node_count-end.ensures.counts) in
+    let fuel : suc (2 * n) - 2 * i ≡ suc (suc (suc (2 * n) - 2 * (i + 1))) = omega (arith, c.loop-test.true, c.node_count-end.ensures) in
     let w = c.in-Some.w in
     let went = c.in-Some.ensures in
     let stop = c.in_default-take_turn.ensures in
@@ -64,7 +64,7 @@ loop-preserved g c =
     let x = inv.3.0 in
     let whole = two_from k f start goal (suc (2 * n)) (both_of c.args.rows.now k.zero c.args.back.now k.zero c.args.met) in
     let i = l.counter in
-    let fuel : suc (2 * n) - 2 * i ≡ suc (suc (suc (2 * n) - 2 * (i + 1))) = omega (arith, c.loop-test.true, c.node_count-end.ensures.counts) in
+    let fuel : suc (2 * n) - 2 * i ≡ suc (suc (suc (2 * n) - 2 * (i + 1))) = omega (arith, c.loop-test.true, c.node_count-end.ensures) in
     let w = c.in-Some.w in
     let went = c.in-Some.ensures in
     let b = c.in-Some-take_turn.b in
@@ -86,7 +86,7 @@ returns-in-Some-take_turn-2 g c =
     let inv = l.invariant in
     let x = inv.3.0 in
     let whole = two_from k f start goal (suc (2 * n)) (both_of c.args.rows.now k.zero c.args.back.now k.zero c.args.met) in
-    let end : suc (2 * n) - 2 * l.counter ≡ 1 = omega (arith, c.loop-test.false, l.auto.counter-end, c.node_count-end.ensures.counts) in
+    let end : suc (2 * n) - 2 * l.counter ≡ 1 = omega (arith, c.loop-test.false, l.auto.counter-end, c.node_count-end.ensures) in
     let w = c.in-Some-take_turn-2.w in
     let went = c.in-Some-take_turn-2.ensures in
     let all = told whole c.take_turn-2.new.rows l.back w.last l.back_last w.met (sym inv.3.1 ∙ ends_between k f start goal l.rows l.back x l.back_last l.met (suc (2 * n) - 2 * l.counter) c.take_turn-2.new.rows w.last w.met went.goes end) in
@@ -103,7 +103,7 @@ returns-in-None g c =
     let inv = l.invariant in
     let x = inv.3.0 in
     let whole = two_from k f start goal (suc (2 * n)) (both_of c.args.rows.now k.zero c.args.back.now k.zero c.args.met) in
-    let end : suc (2 * n) - 2 * l.counter ≡ 1 = omega (arith, c.loop-test.false, l.auto.counter-end, c.node_count-end.ensures.counts) in
+    let end : suc (2 * n) - 2 * l.counter ≡ 1 = omega (arith, c.loop-test.false, l.auto.counter-end, c.node_count-end.ensures) in
     let stop = c.in-None.ensures in
     let all = told whole l.rows l.back x l.back_last l.met (sym inv.3.1 ∙ ends_forward k f start goal l.rows l.back x l.back_last l.met (suc (2 * n) - 2 * l.counter) 0 end stop.1) in
     record { rows = stop.0 ∙ all.0; back = all.1; met = all.2; within = inv.2 }

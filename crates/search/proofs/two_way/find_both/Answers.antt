@@ -33,9 +33,8 @@ write_both-nodes-requires g c =
     (λ i. k.at_most (sym c.beyond.ensures i) (sym ran.met i).cost) ∙ sym c.at_most.ensures ∙ c.if-at_most.false in
     let same : joined k f start goal c.run_both-cost.new.rows c.run_both-cost.new.back c.run_both-cost.result.node ≡ two_route k f start goal =
     λ i. joined k f start goal (ran.rows i) (ran.back i) (ran.met i).node in
-    let short = nodes_short k f start goal laws c.requires.laws c.requires.start c.requires.goal near in
+    let short = nodes_short k f start goal laws (g.met.P.Plant.lawful c.args.plant.now) c.requires.start c.requires.goal near in
     record {
-      laws = c.requires.laws;
       rows = c.run_both-cost.auto.rows ∙ c.requires.rows;
       back = c.run_both-cost.auto.back ∙ c.requires.back;
       via = ran.within;
@@ -55,8 +54,8 @@ overflow_cast-nodes g c =
     (λ i. k.at_most (sym c.beyond.ensures i) (sym ran.met i).cost) ∙ sym c.at_most.ensures ∙ c.if-at_most.false in
     let same : joined k f start goal c.run_both-cost.new.rows c.run_both-cost.new.back c.run_both-cost.result.node ≡ two_route k f start goal =
     λ i. joined k f start goal (ran.rows i) (ran.back i) (ran.met i).node in
-    let short = nodes_short k f start goal laws c.requires.laws c.requires.start c.requires.goal near in
-    let h : c.write_both-nodes.result < 2 ^ 32 = omega (arith, c.write_both-nodes.ensures.count, ap length same, short, c.requires.laws.few_nodes) in
+    let short = nodes_short k f start goal laws (g.met.P.Plant.lawful c.args.plant.now) c.requires.start c.requires.goal near in
+    let h : c.write_both-nodes.result < 2 ^ 32 = omega (arith, c.write_both-nodes.ensures.count, ap length same, short, (g.met.P.Plant.lawful c.args.plant.now).few_nodes) in
     search rules
 
 pub returns : goal.returns
@@ -71,7 +70,7 @@ returns g c =
     (λ i. k.at_most (sym c.beyond.ensures i) (sym ran.met i).cost) ∙ sym c.at_most.ensures ∙ c.if-at_most.false in
     let same : joined k f start goal c.run_both-cost.new.rows c.run_both-cost.new.back c.run_both-cost.result.node ≡ two_route k f start goal =
     λ i. joined k f start goal (ran.rows i) (ran.back i) (ran.met i).node in
-    let short = nodes_short k f start goal laws c.requires.laws c.requires.start c.requires.goal near in
+    let short = nodes_short k f start goal laws (g.met.P.Plant.lawful c.args.plant.now) c.requires.start c.requires.goal near in
     let ours = c.scanned_of-ours.ensures ∙ ap (λ (xs : List (Row g.row.P-Cost.Denot)). count_scanned xs) ran.rows in
     let theirs = c.scanned_of-theirs.ensures ∙ ap (λ (xs : List (Row g.row.P-Cost.Denot)). count_scanned xs) ran.back in
     let wrote = c.write_both-nodes.ensures in

@@ -1,13 +1,13 @@
 -- The bound is the byte of the node to reach, or zero where the two are one or one is no node.
 use Rattle.std.proofs.Common.{sym, ◌∙◌, inl, inr}
-use Rattle.plants.proofs.HallLanes.{class_is}
-use Rattle.plants.proofs.HallLaws.{bound_none, bound_same, bound_other}
+use Rattle.plants.specs.HallLanes.{class_is}
+use Rattle.plants.specs.HallLaws.{bound_none, bound_same, bound_other}
 use Rattle.plants.proofs.hall_questions.HallPlant.bound.Goals as goal
 use Rattle.plants.proofs.hall_questions.HallPlant.bound.Goals.{then-v-nodes-via-then-v-nodes, then-v-nodes-via-else-v-nodes+then-w-nodes, then-v-nodes-via-else-v-nodes+else-w-nodes+then-v-w}
 
 pub returns-then-v-nodes : goal.returns-then-v-nodes
 returns-then-v-nodes c =
-    class_is c.of.result 0 c.of.ensures
+    class_is c.from.result 0 c.from.ensures
     ∙ elim c.then-v-nodes.branch [
       | then-v-nodes-via-then-v-nodes w ↦ sym (bound_none _ _ c.args.v c.args.w (inl w.if-v-nodes.true))
       | then-v-nodes-via-else-v-nodes+then-w-nodes w ↦ sym (bound_none _ _ c.args.v c.args.w (inr w.if-w-nodes.true))
@@ -16,5 +16,5 @@ returns-then-v-nodes c =
 
 pub returns : goal.returns
 returns c =
-    class_is c.of-2.result _ c.of-2.ensures
+    class_is c.from-2.result _ c.from-2.ensures
     ∙ sym (bound_other _ _ c.args.v c.args.w c.if-v-nodes.false c.if-w-nodes.false c.if-v-w.false)

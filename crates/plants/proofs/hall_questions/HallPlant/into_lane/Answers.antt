@@ -1,6 +1,6 @@
 -- The tests go through the slots of the lanes into a node: each passes where those filled so far are more than j.
 use Rattle.std.proofs.Common.{sym, refl, arith}
-use Rattle.plants.proofs.HallSides.{rows_of}
+use Rattle.plants.specs.HallSides.{rows_of}
 use Rattle.plants.proofs.HallInto.{into_at, into_past, into_outside}
 use Rattle.plants.proofs.hall_questions.HallPlant.into_lane.Goals as goal
 use Rattle.plants.proofs.hall_questions.HallPlant.into_lane.Goals.{then-v-nodes-via-then-v-nodes, then-v-nodes-via-else-v-nodes+then-j-ge4}

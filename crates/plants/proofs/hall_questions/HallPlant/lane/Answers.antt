@@ -1,7 +1,7 @@
 -- A lane enters its tail's neighbour, or leads back to its tail.
 use Rattle.std.proofs.Common.{◌/◌, ◌%◌, sym, ◌∙◌, arith}
-use Rattle.plants.proofs.HallSides.{rows_of, neighbour_in}
-use Rattle.plants.proofs.HallLanes.{lane_entering, lane_leaving, lane_past}
+use Rattle.plants.specs.HallSides.{rows_of, neighbour_in}
+use Rattle.plants.specs.HallLanes.{lane_entering, lane_leaving, lane_past}
 use Rattle.plants.proofs.hall_questions.HallPlant.lane.Goals as goal
 
 pub returns-then-v-self : goal.returns-then-v-self
@@ -17,7 +17,7 @@ bounds-self-head c =
 
 pub returns-in-Some : goal.returns-in-Some
 returns-in-Some c =
-    lane_entering _ _ _ c.args.k c.in-Some.head c.of.result c.if-v-self.false c.in-Some.ensures c.of.ensures
+    lane_entering _ _ _ c.args.k c.in-Some.head c.from.result c.if-v-self.false c.in-Some.ensures c.from.ensures
 
 pub returns-in-None : goal.returns-in-None
-returns-in-None c = lane_leaving _ _ _ c.args.k c.of-in-None.result c.if-v-self.false c.in-None.ensures c.of-in-None.ensures
+returns-in-None c = lane_leaving _ _ _ c.args.k c.from-in-None.result c.if-v-self.false c.in-None.ensures c.from-in-None.ensures

@@ -1,7 +1,7 @@
 -- From each cell lead four lanes.
 use Rattle.std.proofs.Common.{◌*◌, sym}
 use Rattle.plants.specs.Hall.{hall_lane}
-use Rattle.plants.proofs.Numbered.{each_length}
+use Rattle.plants.specs.Numbered.{each_length}
 use Rattle.plants.proofs.hall_questions.HallPlant.lane_count.Goals as goal
 
 pub returns : goal.returns

@@ -1,6 +1,6 @@
 -- The lanes out of a node are its four, by rising number.
 use Rattle.std.proofs.Common.{sym}
-use Rattle.plants.proofs.HallLanes.{out_at, out_past, out_outside}
+use Rattle.plants.specs.HallLanes.{out_at, out_past, out_outside}
 use Rattle.plants.proofs.hall_questions.HallPlant.out_lane.Goals as goal
 use Rattle.plants.proofs.hall_questions.HallPlant.out_lane.Goals.{else-v-self-via-then-v-self+else-j-lt4, else-v-self-via-else-v-self}
 

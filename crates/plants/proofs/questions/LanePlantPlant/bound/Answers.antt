@@ -3,9 +3,9 @@ use Rattle.std.proofs.Common.{◌≡◌, ℕ, ◌+◌, ◌*◌, ◌<◌, ◌≤�
 use Rattle.std.proofs.lemmas.Nat.{mul-add-lt}
 use Rattle.plants.specs.Columns.{columns}
 use Rattle.plants.specs.Laid.{greatest, shown}
-use Rattle.plants.proofs.Lawful.{kept}
-use Rattle.plants.proofs.Lanes.{metres_is}
-use Rattle.plants.proofs.Bounds.{bound_inside, bound_none, shown_at}
+use Rattle.plants.specs.Lawful.{kept}
+use Rattle.plants.specs.Lanes.{metres_is}
+use Rattle.plants.specs.Bounds.{bound_inside, bound_none, shown_at}
 use Rattle.plants.proofs.questions.LanePlantPlant.bound.Goals as goal
 use Rattle.plants.proofs.questions.LanePlantPlant.bound.Goals.{then-v-self-via-then-v-self, then-v-self-via-else-v-self+then-w-self}
 
@@ -14,7 +14,7 @@ returns-then-v-self c =
     let p = c.args.self.now in
     let past : (p.nodes ≤ c.args.v) ⊎ (p.nodes ≤ c.args.w) =
     elim c.then-v-self.branch [ then-v-self-via-then-v-self w ↦ inl w.if-v-self.true | then-v-self-via-else-v-self+then-w-self w ↦ inr w.if-w-self.true ] in
-    metres_is c.of.result 0 c.of.ensures ∙ sym (bound_none p.nodes p.landmarks (columns p.lists) c.args.v c.args.w past)
+    metres_is c.from.result 0 c.from.ensures ∙ sym (bound_none p.nodes p.landmarks (columns p.lists) c.args.v c.args.w past)
 
 -- the place of a node in a landmark's row is in the whole table
 in_table : (nodes landmarks m v : ℕ) → m < landmarks → v < nodes → m * nodes + v < landmarks * nodes
@@ -44,5 +44,5 @@ returns c =
     let p = c.args.self.now in
     let f = shown p.nodes (columns p.lists) c.args.v c.args.w in
     let last : c.loop-m.m ≡ p.landmarks = omega (arith, c.loop-m.auto.m-end, c.loop-m-test.false) in
-    metres_is c.of-2.result (greatest f p.landmarks) (c.of-2.ensures ∙ c.loop-m.invariant ∙ ap (greatest f) last)
+    metres_is c.from-2.result (greatest f p.landmarks) (c.from-2.ensures ∙ c.loop-m.invariant ∙ ap (greatest f) last)
     ∙ sym (bound_inside p.nodes p.landmarks (columns p.lists) c.args.v c.args.w c.if-v-self.false c.if-w-self.false)

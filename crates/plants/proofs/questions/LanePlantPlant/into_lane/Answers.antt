@@ -1,6 +1,6 @@
 -- The lanes into a node stand in one row of the lanes by head, from its place in the first-in list to the next.
 use Rattle.std.proofs.Common.{sym, arith}
-use Rattle.plants.proofs.Lawful.{kept}
+use Rattle.plants.specs.Lawful.{kept}
 use Rattle.plants.proofs.Ends.{into_rises, into_within, into_at, into_past, into_outside}
 use Rattle.plants.proofs.questions.LanePlantPlant.into_lane.Goals as goal
 

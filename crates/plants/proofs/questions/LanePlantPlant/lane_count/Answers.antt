@@ -1,7 +1,7 @@
 -- The tails are as many as the lanes.
 use Rattle.std.proofs.Common.{sym}
-use Rattle.plants.proofs.Lawful.{kept}
-use Rattle.plants.proofs.Lanes.{lanes_length}
+use Rattle.plants.specs.Lawful.{kept}
+use Rattle.plants.specs.Lanes.{lanes_length}
 use Rattle.plants.proofs.questions.LanePlantPlant.lane_count.Goals as goal
 
 pub returns : goal.returns

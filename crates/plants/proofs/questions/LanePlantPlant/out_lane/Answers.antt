@@ -1,6 +1,6 @@
 -- The lanes out of a node stand in one row, from its place in the first-out list to the next.
 use Rattle.std.proofs.Common.{sym}
-use Rattle.plants.proofs.Lawful.{kept}
+use Rattle.plants.specs.Lawful.{kept}
 use Rattle.plants.proofs.Ends.{out_rises, out_at, out_past, out_outside}
 use Rattle.plants.proofs.questions.LanePlantPlant.out_lane.Goals as goal
 

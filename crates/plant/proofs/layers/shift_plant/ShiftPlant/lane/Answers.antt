@@ -1,7 +1,7 @@
 use Rattle.std.proofs.Common.{sym, ap, refl, ◌∙◌}
 use Rattle.plant.specs.Closed.{shut_lane}
 use Rattle.plant.specs.Shifted.{is_shut}
-use Rattle.plant.proofs.LayerFacts.{nth-shut, over, shut_there, open_there}
+use Rattle.plant.specs.LayerFacts.{nth-shut, over, shut_there, open_there}
 use Rattle.plant.proofs.layers.shift_plant.ShiftPlant.lane.Goals as goal
 
 pub returns-then-is_closed : goal.returns-then-is_closed

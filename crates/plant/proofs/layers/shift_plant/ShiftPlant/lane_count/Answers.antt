@@ -1,5 +1,5 @@
 use Rattle.std.proofs.Common.{sym, ◌∙◌}
-use Rattle.plant.proofs.LayerFacts.{length-shut}
+use Rattle.plant.specs.LayerFacts.{length-shut}
 use Rattle.plant.proofs.layers.shift_plant.ShiftPlant.lane_count.Goals as goal
 
 pub returns : goal.returns

@@ -1,7 +1,7 @@
 use Rattle.std.proofs.Common.{sym, refl, ap, ◌∙◌}
 use Rattle.std.specs.List.{slice_get}
 use Rattle.plant.specs.Shifted.{is_shut}
-use Rattle.plant.proofs.LayerFacts.{at_from-shut}
+use Rattle.plant.specs.LayerFacts.{at_from-shut}
 use Rattle.plant.proofs.layers.shift_plant.ShiftPlant.out_lane.Goals as goal
 
 pub returns : goal.returns

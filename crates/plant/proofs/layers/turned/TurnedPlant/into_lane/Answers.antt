@@ -1,7 +1,7 @@
 use Rattle.std.proofs.Common.{sym, ap, ◌∙◌}
 use Rattle.std.specs.List.{slice_get}
 use Rattle.plant.specs.Floor.{turn}
-use Rattle.plant.proofs.LayerFacts.{at_from-map}
+use Rattle.plant.specs.LayerFacts.{at_from-map}
 use Rattle.plant.proofs.layers.turned.TurnedPlant.into_lane.Goals as goal
 
 pub returns : goal.returns

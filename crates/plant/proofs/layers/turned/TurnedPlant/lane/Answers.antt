@@ -1,6 +1,6 @@
 use Rattle.std.proofs.Common.{sym, ap, ◌∙◌}
 use Rattle.plant.specs.Floor.{turn}
-use Rattle.plant.proofs.LayerFacts.{nth-map, over}
+use Rattle.plant.specs.LayerFacts.{nth-map, over}
 use Rattle.plant.proofs.layers.turned.TurnedPlant.lane.Goals as goal
 
 pub returns-in-Some : goal.returns-in-Some

@@ -8,9 +8,9 @@ use Rattle.plant.specs.declared.lane.Lane.{Lane}
 use Rattle.plant.specs.Floor.{out_of}
 use Rattle.plants.specs.Index.{each}
 use Rattle.plants.specs.Hall.{class_of, neighbour, lane_to, hall_lane, grid}
-use Rattle.plants.proofs.Numbered.{each_nth, each_past}
-use Rattle.plants.proofs.Picked.{Among, Listed, picked}
-use Rattle.plants.proofs.HallSides.{Rows, neighbour_in}
+use Rattle.plants.specs.Numbered.{each_nth, each_past}
+use Rattle.plants.specs.Picked.{Among, Listed, picked}
+use Rattle.plants.specs.HallSides.{Rows, neighbour_in}
 
 -- a class that holds a number is that number's
 pub class_is : (x : Class) (n : ℕ) → x.grade ≡ n → x ≡ class_of n

@@ -8,9 +8,9 @@ use Rattle.plant.specs.declared.lane.Lane.{Lane}
 use Rattle.plant.specs.Floor.{Floor, FloorLaws}
 use Rattle.plants.specs.Columns.{Columns, lane_count}
 use Rattle.plants.specs.Laid.{lanes_of, greatest, shown, bound_of}
-use Rattle.plants.proofs.Lawful.{Lawful}
-use Rattle.plants.proofs.Lanes.{lane_at, lanes_length, lanes_from}
-use Rattle.plants.proofs.Bounds.{bound_inside, bound_none, shown_self, shown_out, shown_in}
+use Rattle.plants.specs.Lawful.{Lawful}
+use Rattle.plants.specs.Lanes.{lane_at, lanes_length, lanes_from}
+use Rattle.plants.specs.Bounds.{bound_inside, bound_none, shown_self, shown_out, shown_in}
 
 module _ (nodes landmarks : ℕ) (c : Columns) where
   abbrev laid : Floor Length

@@ -4,7 +4,7 @@ use Rattle.std.proofs.lemmas.List.{get_or-take, get_or-drop}
 use Rattle.std.proofs.lemmas.Bool.{and_from, and_left, and_right, lt-ltb, le-ltb, cond-true, cond-false}
 use Rattle.plants.specs.Columns.{Columns, lane_count, row}
 use Rattle.plants.specs.Laid.{metres_of, greatest, shown, bound_of}
-use Rattle.plants.proofs.Lawful.{Lawful}
+use Rattle.plants.specs.Lawful.{Lawful}
 
 none_greater : (f : ℕ → ℕ) (n : ℕ) → ((m : ℕ) → f m ≡ 0) → greatest f n ≡ 0
 none_greater f zero each = refl

@@ -5,9 +5,9 @@ use Rattle.plants.specs.declared.lane_plant.LanePlant.{LanePlant}
 use Rattle.plants.specs.Columns.{Columns, columns, lane_count, row}
 use Rattle.plants.specs.Index.{firsts, grouped}
 use Rattle.plants.specs.Faults.{first_failing, sum, counts_fit, lengths_fit, tail_before, ends_fit, cost_fits, index_fits, table_fits, table_fault, is_lawful}
-use Rattle.plants.proofs.FirstFailing.{none_fails}
-use Rattle.plants.proofs.Passing.{passed, passed-each, no_table_fault}
-use Rattle.plants.proofs.Same.{same_true}
+use Rattle.plants.specs.FirstFailing.{none_fails}
+use Rattle.plants.specs.Passing.{passed, passed-each, no_table_fault}
+use Rattle.plants.specs.Same.{same_true}
 
 pub record Lawful (nodes landmarks : ℕ) (c : Columns) : Type 0 where
   pub some : 0 < nodes

@@ -8,9 +8,9 @@ use Rattle.cost.specs.Classes.{same_class}
 use Rattle.plant.specs.declared.lane.Lane.{Lane}
 use Rattle.plant.specs.Floor.{FloorLaws}
 use Rattle.plants.specs.Hall.{class_of, neighbour, lane_to, hall_lane, hall_bound, grid}
-use Rattle.plants.proofs.Numbered.{each_length, each_from}
-use Rattle.plants.proofs.HallSides.{Rows}
-use Rattle.plants.proofs.HallLanes.{tail_at, head_in}
+use Rattle.plants.specs.Numbered.{each_length, each_from}
+use Rattle.plants.specs.HallSides.{Rows}
+use Rattle.plants.specs.HallLanes.{tail_at, head_in}
 
 -- a lane costs no less than the byte of its head
 enters : (cells : List ℕ) (v : ℕ) (to : Option ℕ) → min (get_or cells (lane_to cells v to).head 0) 255 ≤ (lane_to cells v to).cost.grade

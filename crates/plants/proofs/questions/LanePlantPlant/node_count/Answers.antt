@@ -1,8 +1,0 @@
--- The plant's floor keeps the laws, since no test refuses its lists.
-use Rattle.std.proofs.Common.{refl}
-use Rattle.plants.proofs.Lawful.{kept}
-use Rattle.plants.proofs.LaidLaws.{laid_laws}
-use Rattle.plants.proofs.questions.LanePlantPlant.node_count.Goals as goal
-
-pub returns : goal.returns
-returns c = record { counts = refl; lawful = laid_laws _ _ _ (kept c.args.self.now) }
