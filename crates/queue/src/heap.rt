@@ -2,7 +2,8 @@
 ghost use Rattle.std.specs.Prelude.{◌≤◌, length};
 ghost use Rattle.queue.specs.Order.{Heap, ahead};
 
-// A priority queue in the caller's slots: the first `len` of them are a binary heap, in the entries' own order.
+// A priority queue: the first `len` slots are a binary heap, in the entries' own order.
+// The caller lends the slots, since nothing here allocates, and so a length stands beside them.
 #[derive(Drop)]
 pub struct Queue<'a, E: Ord> {
     pub(crate) slots: &'a mut [E],
