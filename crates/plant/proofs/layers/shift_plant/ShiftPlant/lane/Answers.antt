@@ -1,4 +1,4 @@
-use Rattle.std.proofs.Common.{sym, ap, ◌∙◌}
+use Rattle.std.proofs.Common.{sym, refl, ap, ◌∙◌}
 use Rattle.plant.specs.Closed.{shut_lane}
 use Rattle.plant.specs.Shifted.{is_shut}
 use Rattle.plant.specs.LayerFacts.{nth-shut, over, shut_there, open_there}
@@ -12,7 +12,8 @@ returns-in_err-lane g c =
 pub returns-then-is_closed : goal.returns-then-is_closed
 returns-then-is_closed g c =
     let b = g.P.Cost.CostKind.kind.beyond in
-    shut_there b (is_shut c.args.self.now) (g.P.Plant.floor c.args.self.now.below).lanes c.args.k c.in_ok-lane.lane c.beyond.result c.in_ok-lane.ensures c.if-is_closed.ensures c.beyond.ensures
+    let there = shut_there b (is_shut c.args.self.now) (g.P.Plant.floor c.args.self.now.below).lanes c.args.k c.in_ok-lane.lane b c.in_ok-lane.ensures c.if-is_closed.ensures refl in
+    cc
 
 pub returns : goal.returns
 returns g c =
