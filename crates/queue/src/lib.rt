@@ -1,9 +1,8 @@
-// A priority queue over slots of the caller, for every entry type whose order is total and transitive.
+// A priority queue over slots of the caller, for every type of entries with an order: the first in that order comes out first.
 #![tactic(auto)]
 
 mod heap;
 mod operations;
-mod ranked;
+mod sift;
 
 pub use heap::Queue;
-pub use ranked::Ranked;

@@ -1,9 +1,16 @@
--- The order of entries is total and chains.
-use Rattle.std.specs.Prelude.{◌≡◌, ◌≤◌, true, false, cond, ◌&&◌, ◌||◌, ◌⊎◌, ◌≢◌, nat_le, refl}
-use Rattle.std.proofs.Common.{sym, subst, ◌∙◌, arith}
+-- The order of entries is total and chains, and is what entries derive.
+use Rattle.std.specs.Prelude.{◌≡◌, ℕ, ◌≤◌, List, Bool, true, false, not, cond, ◌&&◌, ◌||◌, ◌⊎◌, ◌≢◌, nat_le, refl}
+use Rattle.std.specs.List.{AllByRecursion}
+use Rattle.std.specs.Cmp.{IsTotalOrder}
+use Rattle.std.specs.Ordering.{is_le, ordering_reverse, ordering_then, nat_cmp}
+use Rattle.std.specs.declared.cmp.Ordering.{Ordering}
+use Rattle.std.specs.declared.cmp.Ordering.TheVariants.{Less, Equal, Greater}
+use Rattle.std.proofs.Common.{sym, ap, subst, ◌∙◌, arith}
 use Rattle.std.proofs.Math.Logic.{inl, inr}
 use Rattle.std.proofs.lemmas.Bool.{cases_Bool, both_ways, or_cases, or_parts, or_left, or_right, and_parts, and_cases, and_from, not_from_false, cond-true, cond-false, leb-true, leb-false, le-leb}
 use Rattle.cost.specs.Kind.{Kind, Laws}
+use Rattle.cost.specs.Ordered.{nat_ordered}
+use Rattle.queue.specs.Order.{Heap, ahead}
 use Rattle.search.specs.declared.entry.Entry.{Entry}
 use Rattle.search.specs.Rows.{below}
 use Rattle.search.specs.Steps.{earlier, ahead_of}
@@ -111,3 +118,40 @@ module _ {C : Type 0} (k : Kind C) (laws : Laws k) where
       | ahead_level t u h ↦ ahead_level (earlier_same a c b c d.0 d.1 refl refl ∙ t) (earlier_same c a c b refl refl d.0 d.1 ∙ u) (omega arith)
     ])
   ])
+
+-- the order that entries derive from that of their costs: by key, then label, then number
+abbrev pub entry_cmp : {C : Type 0} → (C → C → Ordering) → Entry C → Entry C → Ordering
+entry_cmp R a b = ordering_then (R a.key b.key) (ordering_then (R a.label b.label) (nat_cmp a.node b.node))
+
+-- where the order R is the kind's, the order of entries is `ahead_of`
+module _ {C : Type 0} (k : Kind C) (R : C → C → Ordering) (total : IsTotalOrder R) (ordered : (a b : C) → k.at_most a b ≡ is_le (R a b)) where
+  back : (a b : C) → k.at_most b a ≡ is_le (ordering_reverse (R a b))
+  back a b = ordered b a ∙ ap is_le (total.antisymm b a)
+
+  by_cases : (r s n : Ordering) (t : Bool) → t ≡ is_le n →
+      cond (not (is_le (ordering_reverse r)) || (is_le r && not (is_le (ordering_reverse s)))) true (cond (not (is_le r) || (is_le (ordering_reverse r) && not (is_le s))) false t) ≡ is_le (ordering_then r (ordering_then s n))
+  by_cases Less s n t e = refl
+  by_cases Equal Less n t e = refl
+  by_cases Equal Equal n t e = e
+  by_cases Equal Greater n t e = refl
+  by_cases Greater s n t e = refl
+
+  at : (a b : Entry C) → ahead_of k a b ≡ ahead (entry_cmp R) a b
+  at a b =
+      let p = ordered a.key b.key in
+      let q = back a.key b.key in
+      let s = ordered a.label b.label in
+      let t = back a.label b.label in
+      (λ i. cond (not (q i) || (p i && not (t i))) true (cond (not (p i) || (q i && not (s i))) false (nat_le a.node b.node)))
+      ∙ by_cases (R a.key b.key) (R a.label b.label) (nat_cmp a.node b.node) (nat_le a.node b.node) (nat_ordered a.node b.node)
+
+  pub entry_ordered : ahead_of k ≡ ahead (entry_cmp R)
+  entry_ordered i a b = at a b i
+
+  -- a queue of entries is in the order `ahead_of`
+  pub heaped : (xs : List (Entry C)) (n : ℕ) → Heap (ahead (entry_cmp R)) xs 0 n → Heap (ahead_of k) xs 0 n
+  heaped xs n = subst (λ le. Heap le xs 0 n) (sym entry_ordered)
+
+  -- what is at most each of the queue
+  pub leasts : (e : Entry C) (es : List (Entry C)) → AllByRecursion (λ y. ahead (entry_cmp R) e y ≡ true) es → AllByRecursion (λ y. ahead_of k e y ≡ true) es
+  leasts e es = subst (λ le. AllByRecursion (λ y. le e y ≡ true) es) (sym entry_ordered)

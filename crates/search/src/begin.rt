@@ -35,7 +35,8 @@ pub(crate) fn begin<P: Plant>(
         state: State::Labelled,
     };
     let key = zero.join(plant.bound(start, goal));
-    queue.push(Entry {
+    // There is room, so it is taken in.
+    let _ = queue.push(Entry {
         key,
         label: zero,
         node: start,

@@ -6,7 +6,6 @@ mod begin;
 pub mod call;
 mod calling;
 pub mod entry;
-pub mod entry_rank;
 pub mod fault;
 mod follow;
 mod live;

@@ -11,7 +11,7 @@ use crate::meeting::Meeting;
 use crate::row::Row;
 use cost::kind::CostKind;
 use plant::plant::Plant;
-use queue::{Queue, Ranked};
+use queue::Queue;
 
 // The better of the best route so far and one over `node` at the cost `cost`.
 fn best_of<C: CostKind>(cost: C, node: u32, met: Meeting<C>) -> Meeting<C>

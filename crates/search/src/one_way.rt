@@ -20,7 +20,7 @@ use crate::rows::mark_as;
 use crate::walk_back::write_route;
 use cost::kind::CostKind;
 use plant::plant::Plant;
-use queue::{Queue, Ranked};
+use queue::Queue;
 
 #[derive(Clone, Copy)]
 pub(crate) struct Ending<C> {

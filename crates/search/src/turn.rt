@@ -11,7 +11,7 @@ use crate::row::{Row, State};
 use crate::rows::mark_as;
 use cost::kind::CostKind;
 use plant::plant::Plant;
-use queue::{Queue, Ranked};
+use queue::Queue;
 
 // A turn that was taken: the key of its node, and the best route after it.
 #[derive(Clone, Copy)]

@@ -16,7 +16,6 @@ use crate::scanned::scanned_of;
 use crate::two_sides::run_both;
 use cost::kind::CostKind;
 use plant::plant::Plant;
-use queue::Ranked;
 
 // The search over as many rows of each side as there are nodes.
 fn find_both<P: Plant>(

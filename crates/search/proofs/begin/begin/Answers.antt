@@ -5,6 +5,7 @@ use Rattle.queue.proofs.Uses.{took}
 use Rattle.search.specs.declared.entry.Entry.{Entry}
 use Rattle.search.specs.declared.row.Row.{Row}
 use Rattle.search.specs.declared.row.State.TheVariants.{Labelled}
+use Rattle.search.specs.EntryOrder.{heaped}
 use Rattle.search.specs.Rows.{blank_rows}
 use Rattle.search.specs.Steps.{start_rows}
 use Rattle.search.specs.Ties.{Ready, left_of, entry_of}
@@ -33,17 +34,17 @@ returns g c =
     let begins : set c.blank_all.new.rows start (record { label = c.zero-zero.result; lane = 0; state = Labelled }) ≡ start_rows k f start =
     λ i. set (blank i) start (record { label = z i; lane = 0; state = Labelled }) in
     let free : count q < room q = omega (arith, c.requires.empty, c.requires.room) in
-    let more : count q' ≡ count q + 1 = took _ _ _ _ _ p.test free p.count in
+    let more : count q' ≡ count q + 1 = took _ _ _ _ _ _ p.test free p.count in
     let key : c.join-key.result ≡ k.join k.zero (f.bound start goal) = c.join-key.ensures ∙ (λ i. k.join (z i) (c.bound.ensures i)) in
     let none : held q ≡ [] = ap (λ (n : ℕ). take n q.slots.now) c.requires.empty in
     let put : IsPermutation (entry_of k f goal (first_row k) start ∷ []) (held q') =
-    subst (λ (es : List (Entry g.row.P-Cost.Denot)). IsPermutation es (held q')) (λ i. record { key = key i; label = z i; node = start } ∷ none i) (took _ _ _ _ _ p.test free p.held) in
+    subst (λ (es : List (Entry g.row.P-Cost.Denot)). IsPermutation es (held q')) (λ i. record { key = key i; label = z i; node = start } ∷ none i) (took _ _ _ _ _ _ p.test free p.held) in
     let left : left_of k (start_rows k f start) f.lanes ≤ length f.lanes = left_le k (start_rows k f start) f.lanes in
     record {
       rows = begins;
       ready = subst (λ (xs : List (Row g.row.P-Cost.Denot)). Ready k f goal xs q') (sym begins) (record {
         long = start_length k f start c.requires.start;
-        front = record { heap = p.heap c.requires.heap; tied = start_tied k laws f start goal c.requires.start (held q') put };
+        front = record { heap = heaped k g.P.Cost.Ord.cmp g.met.P.Cost.Ord.total g.met.P.Cost.CostKind.ordered q'.slots.now q'.len q'.heap; tied = start_tied k laws f start goal c.requires.start (held q') put };
         fits = omega (arith, left, more, c.requires.empty, p.room, c.requires.room);
       });
     }
