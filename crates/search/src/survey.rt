@@ -21,8 +21,8 @@ fn write_labels<C: CostKind>(rows: &[Row<C>], costs: &mut [C])
     requires { length rows.now ≤ length costs.old }
     ensures { costs.new ≡ onto (map label_of rows.now) costs.old }
 {
-    for i in 0..rows.len() {
-        costs[i] = rows[i].label;
+    for (i, row) in rows.iter().enumerate() {
+        costs[i] = row.label;
     }
 }
 
