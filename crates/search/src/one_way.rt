@@ -10,7 +10,7 @@ ghost use Rattle.search.specs.Lists.{onto};
 ghost use Rattle.search.specs.Searched.{fault_of, one_answer, one_nodes, cost_of, node_count_of, Searched};
 ghost use Rattle.std.specs.Result.{result_err};
 
-use crate::answer::Answer;
+use crate::answer::{Answer, Route};
 use crate::begin::begin;
 use crate::entry::Entry;
 use crate::fault::SearchFault;
@@ -100,7 +100,7 @@ fn find<P: Plant>(
     rows: &mut [Row<P::Cost>],
     slots: &mut [Entry<P::Cost>],
     route: &mut [u32],
-) -> Answer<P::Cost>
+) -> Answer<P::Cost, u32>
     requires laws { FloorLaws P.Cost.CostKind.kind (P.Plant.floor plant.now) }
     requires rows { length rows.old ≡ (P.Plant.floor plant.now).nodes }
     requires few { length rows.old < 2 ^ 32 }
@@ -114,13 +114,15 @@ fn find<P: Plant>(
 {
     let Ending { cost, scanned } = run(plant, start, goal, rows, slots);
     if P::Cost::beyond().at_most(cost) {
-        return Answer::Beyond { scanned };
+        return Answer {
+            scanned,
+            route: None,
+        };
     }
     let nodes = write_route(plant, start, goal, rows, route) as u32;
-    Answer::Route {
-        cost,
+    Answer {
         scanned,
-        nodes,
+        route: Some(Route { cost, nodes }),
     }
 }
 
@@ -132,7 +134,7 @@ pub fn one_way<P: Plant>(
     rows: &mut [Row<P::Cost>],
     queue: &mut [Entry<P::Cost>],
     route: &mut [u32],
-) -> Result<Answer<P::Cost>, SearchFault>
+) -> Result<Answer<P::Cost, u32>, SearchFault>
     ensures fault { result_err result ≡ fault_of (P.Plant.floor plant.now) start goal (length rows.old) (length queue.old) (length route.old) }
     ensures searched { MatchResult result (λ a. Searched P.Cost.CostKind.kind (P.Plant.floor plant.now) start goal rows.old rows.new route.old route.new a) (λ _. (rows.new ≡ rows.old) × (queue.new ≡ queue.old) × (route.new ≡ route.old)) }
     ensures right { IfOk result (λ a. Right P.Cost.CostKind.kind (P.Plant.floor plant.now) start goal (cost_of P.Cost.CostKind.kind a) (take (node_count_of a) route.new) (take (P.Plant.floor plant.now).nodes rows.new)) }

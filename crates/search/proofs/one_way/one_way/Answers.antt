@@ -1,6 +1,8 @@
 use Rattle.std.proofs.Common.{◌≡◌, ◌-◌, ◌<◌, ◌≤◌, length, ◌∙◌, arith}
 use Rattle.std.proofs.lemmas.List.{length-take-le}
 use Rattle.std.proofs.lemmas.Slice.{take-put_mid, drop-put_mid}
+use Rattle.search.specs.Steps.{count_scanned}
+use Rattle.search.specs.OneWay.{one_way}
 use Rattle.search.proofs.AnswerFacts.{no_fault, right_of}
 use Rattle.search.proofs.Answers.{one_way_right}
 use Rattle.search.proofs.one_way.one_way.Goals as goal
@@ -33,5 +35,5 @@ returns g c =
         answer_is = found.answer;
         route_is = found.route;
       };
-      right = right_of k f start goal laws (one_way_right laws fl a b) c.find.result c.args.route.now c.find.new.route _ found.answer found.route kept;
+      right = right_of k f start goal laws (one_way_right laws fl a b) (count_scanned (one_way k f start goal).rows) c.find.result c.args.route.now c.find.new.route _ found.answer found.route kept;
     }
