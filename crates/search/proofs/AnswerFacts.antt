@@ -12,19 +12,8 @@ use Rattle.search.specs.declared.fault.SearchFault.TheVariants.{Start, Goal, Row
 use Rattle.search.specs.declared.row.Row.{Row}
 use Rattle.search.specs.Answer.{Right}
 use Rattle.search.specs.Lists.{onto}
-use Rattle.search.specs.Searched.{fault_of, answer_of, nodes_of, cost_told, count_told, cost_of, node_count_of}
+use Rattle.search.specs.Searched.{answer_of, nodes_of, cost_told, count_told, cost_of, node_count_of}
 use Rattle.search.specs.Order.{is_beyond}
-
-pub no_fault : {C : Type 0} (f : Floor C) (start goal rows entries places : ℕ) → start < f.nodes → goal < f.nodes → f.nodes ≤ rows → length f.lanes < entries → f.nodes ≤ places → None ≡ fault_of f start goal rows entries places
-no_fault f start goal rows entries places a b c d e =
-    let past : Option SearchFault = cond (ltb places f.nodes) (Some ShortRoute) None in
-    let rest : Option SearchFault = cond (leb entries (length f.lanes)) (Some Queue) past in
-    let both : Option SearchFault = cond (ltb rows f.nodes) (Some Rows) rest in
-    sym (cond-true (ltb start f.nodes) (cond (ltb goal f.nodes) both (Some (Goal goal))) (Some (Start start)) (lt-ltb start f.nodes a)
-    ∙ cond-true (ltb goal f.nodes) both (Some (Goal goal)) (lt-ltb goal f.nodes b)
-    ∙ cond-false (ltb rows f.nodes) (Some Rows) rest (le-ltb rows f.nodes c)
-    ∙ cond-false (leb entries (length f.lanes)) (Some Queue) past (lt-leb entries (length f.lanes) d)
-    ∙ cond-false (ltb places f.nodes) (Some ShortRoute) None (le-ltb places f.nodes e))
 
 -- what was written over the first n entries
 pub written : {A : Type 0} (n : ℕ) (new old told : List A) → n ≤ length new → take n new ≡ told → drop n new ≡ drop n old → (n ≡ length told) × (new ≡ onto told old)

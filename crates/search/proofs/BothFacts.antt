@@ -11,27 +11,11 @@ use Rattle.search.specs.declared.row.Row.{Row}
 use Rattle.search.specs.Answer.{RightBoth, WorthBackward}
 use Rattle.search.specs.Lists.{onto}
 use Rattle.search.specs.Searched.{cost_of, node_count_of}
-use Rattle.search.specs.SearchedBoth.{two_fault, both_scanned, two_answer, two_nodes}
+use Rattle.search.specs.SearchedBoth.{both_scanned, two_answer, two_nodes}
 use Rattle.search.specs.Rows.{row_at}
 use Rattle.search.specs.TwoWay.{two_way, two_route}
 use Rattle.search.proofs.AnswerFacts.{right_of, cost_is}
 use Rattle.search.proofs.TwoAnswers.{two_way_right, two_route_short}
-
-pub no_two_fault : {C : Type 0} (f : Floor C) (start goal rows back entries back_entries places : ℕ) → start < f.nodes → goal < f.nodes → f.nodes ≤ rows → f.nodes ≤ back → length f.lanes < entries → length f.lanes < back_entries → f.nodes ≤ places
-    → None ≡ two_fault f start goal rows back entries back_entries places
-no_two_fault f start goal rows back entries back_entries places a b r r' q q' p =
-    let past : Option SearchFault = cond (ltb places f.nodes) (Some ShortRoute) None in
-    let queue' : Option SearchFault = cond (leb back_entries (length f.lanes)) (Some Queue) past in
-    let queue : Option SearchFault = cond (leb entries (length f.lanes)) (Some Queue) queue' in
-    let rows' : Option SearchFault = cond (ltb back f.nodes) (Some Rows) queue in
-    let lent : Option SearchFault = cond (ltb rows f.nodes) (Some Rows) rows' in
-    sym (cond-true (ltb start f.nodes) (cond (ltb goal f.nodes) lent (Some (Goal goal))) (Some (Start start)) (lt-ltb start f.nodes a)
-    ∙ cond-true (ltb goal f.nodes) lent (Some (Goal goal)) (lt-ltb goal f.nodes b)
-    ∙ cond-false (ltb rows f.nodes) (Some Rows) rows' (le-ltb rows f.nodes r)
-    ∙ cond-false (ltb back f.nodes) (Some Rows) queue (le-ltb back f.nodes r')
-    ∙ cond-false (leb entries (length f.lanes)) (Some Queue) queue' (lt-leb entries (length f.lanes) q)
-    ∙ cond-false (leb back_entries (length f.lanes)) (Some Queue) past (lt-leb back_entries (length f.lanes) q')
-    ∙ cond-false (ltb places f.nodes) (Some ShortRoute) None (le-ltb places f.nodes p))
 
 module _ {C : Type 0} (k : Kind C) (f : Floor C) (start goal : ℕ) (laws : Laws k) (fl : FloorLaws k f) (start-in : start < f.nodes) (goal-in : goal < f.nodes) where
   abbrev Cost : C

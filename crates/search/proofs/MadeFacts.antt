@@ -1,9 +1,9 @@
 -- From what a search or a shift answers to what its call is made as.
-use Rattle.std.proofs.Common.{◌≡◌, ℕ, ◌-◌, ◌≤◌, Bool, true, false, cond, ltb, leb, List, [], ◌++◌, length, take, drop, Some, None, Option, Ok, Err, sym, refl, ap, ◌∙◌, subst, append-nil, arith, length-append, length-drop, take-append-drop, drop_of_length-le}
+use Rattle.std.proofs.Common.{◌≡◌, ℕ, ◌-◌, ◌≤◌, Bool, true, false, cond, leb, List, [], ◌++◌, length, take, drop, Some, None, Option, Ok, Err, sym, refl, ap, ◌∙◌, subst, append-nil, arith, length-append, length-drop, take-append-drop, drop_of_length-le}
 use borrow.Rule.Slice.PartMut.{put_mid}
 use Rattle.std.proofs.lemmas.Slice.{between_to_end}
+use Rattle.std.specs.Option.{option_or}
 use Rattle.std.specs.Result.{IsErrAnd}
-use Rattle.std.proofs.lemmas.Bool.{ltb-false}
 use Rattle.std.proofs.lemmas.Result.{err_from_is_err_and}
 use Rattle.cost.specs.Kind.{Kind}
 use Rattle.plant.specs.declared.layers.shift.ShiftFault.{ShiftFault}
@@ -26,11 +26,13 @@ use Rattle.search.specs.Lists.{onto, onto_at}
 use Rattle.search.specs.Steps.{count_scanned}
 use Rattle.search.specs.OneWay.{one_way, one_route}
 use Rattle.search.specs.TwoWay.{two_way, two_route}
+use Rattle.search.specs.Faults.{node_fault, room_fault, search_fault}
 use Rattle.search.specs.Searched.{answer_of, count_told, fault_of, one_answer}
 use Rattle.search.specs.SearchedBoth.{both_scanned, two_fault, two_answer}
 use Rattle.search.specs.Calls.{Reply, nodes_told, Areas}
 use Rattle.search.specs.Life.{counts_of, rows_backward, too_short}
-use Rattle.search.specs.Served.{Made, plain, unless_shift, unless_search, answer, search_fault, made, Makes, closed_after}
+use Rattle.search.proofs.FaultFacts.{room_in, both_none}
+use Rattle.search.specs.Served.{Made, plain, unless_shift, unless_search, answer, made, Makes, closed_after}
 
 -- a write to the end of a list, from `at` on
 put_end : (at : ℕ) (old part nodes : List ℕ) → part ≡ onto nodes (take (length old - at) (drop at old)) → put_mid at (length old - at) old part ≡ onto_at at nodes old
@@ -83,38 +85,31 @@ module _ {C : Type 0} (at : ℕ) (rows rows' back back' : List (Row C)) (routes 
         subst (λ (z : Option SearchFault). Makes (unless_search z m) at q rows rows' back back' routes After) e made_so
 
 -- a search that is not refused has rows enough
-pub enough_rows : {C : Type 0} (f : Floor C) (s t n : ℕ) (more : Option SearchFault) → None ≡ search_fault f s t (cond (ltb n f.nodes) (Some Rows) more) → f.nodes ≤ n
-enough_rows f s t n more e = go (ltb s f.nodes) (ltb t f.nodes) (ltb n f.nodes) refl e
-  where
-    go : (a b c : Bool) → ltb n f.nodes ≡ c → None ≡ cond a (cond b (cond c (Some Rows) more) (Some (Goal t))) (Some (Start s)) → f.nodes ≤ n
-    go false b c q h = absurd (let z : ◌≡◌ {A = ℕ} 0 1 = cc in omega arith)
-    go true false c q h = absurd (let z : ◌≡◌ {A = ℕ} 0 1 = cc in omega arith)
-    go true true true q h = absurd (let z : ◌≡◌ {A = ℕ} 0 1 = cc in omega arith)
-    go true true false q h = ltb-false _ _ q
+unrefused : {C : Type 0} (f : Floor C) (s t : ℕ) (short : Option SearchFault) → None ≡ search_fault f s t short → None ≡ short
+unrefused f s t short e = (both_none (node_fault f t (Goal t)) short (both_none (node_fault f s (Start s)) (option_or (node_fault f t (Goal t)) short) e).1).1
 
-pub enough_back : {C : Type 0} (f : Floor C) (s t n b : ℕ) (more : Option SearchFault) → None ≡ search_fault f s t (cond (ltb n f.nodes) (Some Rows) (cond (ltb b f.nodes) (Some Rows) more)) → f.nodes ≤ b
-enough_back f s t n b more e = go (ltb n f.nodes) e
-  where
-    go : (c : Bool) → None ≡ search_fault f s t (cond c (Some Rows) (cond (ltb b f.nodes) (Some Rows) more)) → f.nodes ≤ b
-    go true h = absurd (never (ltb s f.nodes) (ltb t f.nodes) h)
-      where
-        never : (x y : Bool) → None ≡ cond x (cond y (Some Rows) (Some (Goal t))) (Some (Start s)) → ⊥
-        never false y q = let z : ◌≡◌ {A = ℕ} 0 1 = cc in omega arith
-        never true false q = let z : ◌≡◌ {A = ℕ} 0 1 = cc in omega arith
-        never true true q = let z : ◌≡◌ {A = ℕ} 0 1 = cc in omega arith
-    go false h = enough_rows f s t b more h
+pub enough_rows : {C : Type 0} (f : Floor C) (s t n : ℕ) (more : Option SearchFault) → None ≡ search_fault f s t (option_or (room_fault f n Rows) more) → f.nodes ≤ n
+enough_rows f s t n more e = let rows = room_fault f n Rows in room_in f n Rows (both_none rows more (unrefused f s t (option_or rows more) e)).0
+
+pub enough_back : {C : Type 0} (f : Floor C) (s t n b : ℕ) (more : Option SearchFault) → None ≡ search_fault f s t (option_or (room_fault f n Rows) (option_or (room_fault f b Rows) more)) → f.nodes ≤ b
+enough_back f s t n b more e =
+    let rows = room_fault f n Rows in
+    let back = option_or (room_fault f b Rows) more in
+    room_in f b Rows (both_none (room_fault f b Rows) more (both_none rows back (unrefused f s t (option_or rows back) e)).1).0
 
 module _ {C : Type 0} (k : Kind C) (f : Floor C) (closed : List ℕ) (s t : ℕ) where
   abbrev F : Floor C
   F = shut k (among closed) f
 
   pub one_fault : (a : Areas) (left p : ℕ) → p ≡ left → fault_of F s t a.rows a.entries p ≡ search_fault f s t (too_short f a left (One s t))
-  one_fault a left p e = λ i. search_fault f s t (cond (ltb a.rows f.nodes) (Some Rows) (cond (leb a.entries (length-shut k.beyond (among closed) f.lanes i)) (Some Queue) (cond (ltb (e i) f.nodes) (Some ShortRoute) None)))
+  one_fault a left p e =
+      let long = length-shut k.beyond (among closed) f.lanes in
+      λ i. search_fault f s t (option_or (room_fault f a.rows Rows) (option_or (cond (leb a.entries (long i)) (Some Queue) None) (room_fault f (e i) ShortRoute)))
 
   pub two_fault_is : (a : Areas) (left p : ℕ) → p ≡ left → two_fault F s t a.rows a.back_rows a.entries a.back_entries p ≡ search_fault f s t (too_short f a left (Two s t))
   two_fault_is a left p e =
       let long = length-shut k.beyond (among closed) f.lanes in
-      λ i. search_fault f s t (cond (ltb a.rows f.nodes) (Some Rows) (cond (ltb a.back_rows f.nodes) (Some Rows) (cond (leb a.entries (long i)) (Some Queue) (cond (leb a.back_entries (long i)) (Some Queue) (cond (ltb (e i) f.nodes) (Some ShortRoute) None)))))
+      λ i. search_fault f s t (option_or (room_fault f a.rows Rows) (option_or (room_fault f a.back_rows Rows) (option_or (cond (leb a.entries (long i)) (Some Queue) None) (option_or (cond (leb a.back_entries (long i)) (Some Queue) None) (room_fault f (e i) ShortRoute)))))
 
   -- an answer with its counts told is the reply
   replied : {N : Type 0} (call : Call) (n : N) (c : C) (nodes : List ℕ) (at : ℕ) (told : N → Counts) → told n ≡ counts_of k F call → (a : Answer C N) (r : Answer C Counts) → a ≡ answer_of k n c nodes → r.scanned ≡ told a.scanned → r.route ≡ a.route

@@ -1,6 +1,7 @@
 -- Each reply of a shift is right, and leaves the shift with exactly the shut lanes closed.
 use Rattle.std.proofs.Common.{◌≡◌, ℕ, ◌-◌, ◌<◌, Bool, true, false, cond, ltb, List, [], ◌∷◌, ◌++◌, length, take, drop, Some, None, Option, Ok, Err, sym, refl, ◌∙◌, subst, arith}
 use Rattle.std.proofs.lemmas.Bool.{both_ways, ltb-true, ltb-false}
+use Rattle.std.specs.Option.{option_or}
 use Rattle.cost.specs.Kind.{Kind, Laws}
 use Rattle.plant.specs.declared.layers.shift.ShiftFault.TheVariants.{NoLane, Closed as closed_already, Full as closed_64, Open as not_closed}
 use Rattle.plant.specs.Floor.{Floor, FloorLaws}
@@ -112,7 +113,7 @@ module _ {C : Type 0} {k : Kind C} (laws : Laws k) {f : Floor C} (fl : FloorLaws
       next : Held (events ++ event call m.reply ∷ []) (closed_after closed m.reply)
 
     searched : (a : Bool) → ltb s f.nodes ≡ a → (b : Bool) → ltb t f.nodes ≡ b → (short : Option SearchFault) →
-        Searched short (unless_search (cond a (cond b short (Some (Goal t))) (Some (Start s))) (answer k F (taken events) call c nodes))
+        Searched short (unless_search (option_or (cond a None (Some (Start s))) (option_or (cond b None (Some (Goal t))) short)) (answer k F (taken events) call c nodes))
     searched false p b q short = record { right = λ _ _. SearchRight.start_missing (ltb-false _ _ p) refl; next = held_mild events closed h call (Err (Search (Start s))) tt }
     searched true p false q short = record { right = λ _ _. SearchRight.goal_missing (ltb-true _ _ p) (ltb-false _ _ q) refl; next = held_mild events closed h call (Err (Search (Goal t))) tt }
     searched true p true q (Some x) = record { right = λ _ _. SearchRight.area_short (ltb-true _ _ p) (ltb-true _ _ q) x refl refl; next = held_mild events closed h call (Err (Search x)) tt }

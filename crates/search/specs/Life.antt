@@ -1,5 +1,5 @@
 -- The life of a shift: what the reply to each of its calls is held to, in the words of calls, walks and costs.
-use Rattle.std.specs.Prelude.{◌≡◌, ℕ, ◌-◌, ◌<◌, ◌≤◌, cond, ◌↔◌, List, [], length, take, drop, Some, None, Option, Ok, Err, ◌≢◌, nat_le, nat_lt}
+use Rattle.std.specs.Prelude.{◌≡◌, ℕ, ◌-◌, ◌<◌, ◌≤◌, ◌↔◌, List, [], length, take, drop, Some, None, Option, Ok, Err, ◌≢◌}
 use Rattle.std.specs.List.{slice_get}
 use Rattle.cost.specs.Kind.{Kind}
 use Rattle.plant.specs.declared.layers.shift.ShiftFault.TheVariants.{NoLane, Closed as closed_already, Full as closed_64, Open as not_closed}
@@ -8,7 +8,7 @@ use Rattle.plant.specs.Walk.{NoneBelow}
 use Rattle.search.specs.declared.call.Call.{Call}
 use Rattle.search.specs.declared.call.Call.TheVariants.{Close, Reopen, One, Two}
 use Rattle.search.specs.declared.fault.SearchFault.{SearchFault}
-use Rattle.search.specs.declared.fault.SearchFault.TheVariants.{Start, Goal, Rows, Queue, Route as ShortRoute}
+use Rattle.search.specs.declared.fault.SearchFault.TheVariants.{Start, Goal}
 use Rattle.search.specs.declared.reply.CallFault.TheVariants.{Search, Shift}
 use Rattle.search.specs.declared.answer.Counts.{Counts}
 use Rattle.search.specs.declared.reply.Done.TheVariants.{Closed, Reopened, Searched as Told}
@@ -20,6 +20,7 @@ use Rattle.search.specs.Steps.{count_scanned}
 use Rattle.search.specs.OneWay.{one_way}
 use Rattle.search.specs.TwoWay.{two_way}
 use Rattle.search.specs.Answer.{RouteOf, AllBeyond, WorthForward, WorthBackward}
+use Rattle.search.specs.Faults.{one_short, two_short}
 use Rattle.search.specs.Calls.{Reply, Event, past, taken, Areas}
 use Rattle.search.specs.Moment.{Shut, Fewer, Full, Moment}
 
@@ -82,16 +83,8 @@ pub record Answered {C : Type 0} (k : Kind C) (F : Floor C) (events : List (Even
 abbrev pub too_short : {C : Type 0} → Floor C → Areas → ℕ → Call → Option SearchFault
 too_short f a left (Close n) = None
 too_short f a left (Reopen n) = None
-too_short f a left (One s t) =
-    cond (nat_lt a.rows f.nodes) (Some Rows)
-    (cond (nat_le a.entries (length f.lanes)) (Some Queue)
-    (cond (nat_lt left f.nodes) (Some ShortRoute) None))
-too_short f a left (Two s t) =
-    cond (nat_lt a.rows f.nodes) (Some Rows)
-    (cond (nat_lt a.back_rows f.nodes) (Some Rows)
-    (cond (nat_le a.entries (length f.lanes)) (Some Queue)
-    (cond (nat_le a.back_entries (length f.lanes)) (Some Queue)
-    (cond (nat_lt left f.nodes) (Some ShortRoute) None))))
+too_short f a left (One s t) = one_short f a.rows a.entries left
+too_short f a left (Two s t) = two_short f a.rows a.back_rows a.entries a.back_entries left
 
 -- a search is accepted exactly when its start and its goal are nodes and no work area is too short
 pub data SearchRight {C : Type 0} (k : Kind C) (f : Floor C) (events : List (Event C)) (routes : List ℕ) (call : Call) (short : Option SearchFault) (s t : ℕ) (r : Reply C) : Type 0 where

@@ -1,26 +1,19 @@
 -- What a call of the one-way search answers and leaves.
-use Rattle.std.specs.Prelude.{◌≡◌, ℕ, cond, List, [], length, take, drop, Some, None, Option, nat_le, nat_lt}
+use Rattle.std.specs.Prelude.{◌≡◌, ℕ, cond, List, [], length, take, drop, Some, None, Option}
 use Rattle.cost.specs.Kind.{Kind}
 use Rattle.plant.specs.Floor.{Floor}
 use Rattle.search.specs.declared.row.Row.{Row}
 use Rattle.search.specs.declared.answer.Answer.{Answer}
 use Rattle.search.specs.declared.answer.Route.{Route}
 use Rattle.search.specs.declared.fault.SearchFault.{SearchFault}
-use Rattle.search.specs.declared.fault.SearchFault.TheVariants.{Start, Goal, Rows, Queue, Route as ShortRoute}
+use Rattle.search.specs.Faults.{one_short, search_fault}
 use Rattle.search.specs.Lists.{onto}
 use Rattle.search.specs.Steps.{count_scanned}
 use Rattle.search.specs.OneWay.{one_way, one_route}
 
 -- the first thing that is wrong with a call, by how many rows, entries and route places it lends
 abbrev pub fault_of : {C : Type 0} → Floor C → ℕ → ℕ → ℕ → ℕ → ℕ → Option SearchFault
-fault_of f start goal rows entries places =
-    cond (nat_lt start f.nodes)
-    (cond (nat_lt goal f.nodes)
-    (cond (nat_lt rows f.nodes) (Some Rows)
-    (cond (nat_le entries (length f.lanes)) (Some Queue)
-    (cond (nat_lt places f.nodes) (Some ShortRoute) None)))
-    (Some (Goal goal)))
-    (Some (Start start))
+fault_of f start goal rows entries places = search_fault f start goal (one_short f rows entries places)
 
 -- what a search answers that scans so many and comes to the cost c over these nodes: a route, unless the cost is beyond
 abbrev pub answer_of : {C N : Type 0} → Kind C → N → C → List ℕ → Answer C N

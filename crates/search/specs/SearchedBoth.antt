@@ -1,12 +1,12 @@
 -- What a call of the two-way search answers and leaves.
-use Rattle.std.specs.Prelude.{◌≡◌, ℕ, cond, List, [], length, take, drop, Some, None, Option, nat_le, nat_lt}
+use Rattle.std.specs.Prelude.{◌≡◌, ℕ, List, take, drop, Option}
 use Rattle.cost.specs.Kind.{Kind}
 use Rattle.plant.specs.Floor.{Floor}
 use Rattle.search.specs.declared.row.Row.{Row}
 use Rattle.search.specs.declared.answer.Answer.{Answer}
 use Rattle.search.specs.declared.answer.Both.{Both}
 use Rattle.search.specs.declared.fault.SearchFault.{SearchFault}
-use Rattle.search.specs.declared.fault.SearchFault.TheVariants.{Start, Goal, Rows, Queue, Route as ShortRoute}
+use Rattle.search.specs.Faults.{two_short, search_fault}
 use Rattle.search.specs.Lists.{onto}
 use Rattle.search.specs.Steps.{count_scanned}
 use Rattle.search.specs.Searched.{answer_of, nodes_of}
@@ -14,16 +14,7 @@ use Rattle.search.specs.TwoWay.{two_way, two_route}
 
 -- the first thing that is wrong with a call, by how many rows and entries it lends to each side, and how many route places
 abbrev pub two_fault : {C : Type 0} → Floor C → ℕ → ℕ → ℕ → ℕ → ℕ → ℕ → ℕ → Option SearchFault
-two_fault f start goal rows back_rows entries back_entries places =
-    cond (nat_lt start f.nodes)
-    (cond (nat_lt goal f.nodes)
-    (cond (nat_lt rows f.nodes) (Some Rows)
-    (cond (nat_lt back_rows f.nodes) (Some Rows)
-    (cond (nat_le entries (length f.lanes)) (Some Queue)
-    (cond (nat_le back_entries (length f.lanes)) (Some Queue)
-    (cond (nat_lt places f.nodes) (Some ShortRoute) None)))))
-    (Some (Goal goal)))
-    (Some (Start start))
+two_fault f start goal rows back_rows entries back_entries places = search_fault f start goal (two_short f rows back_rows entries back_entries places)
 
 -- how many nodes each side's steps mark scanned
 abbrev pub both_scanned : {C : Type 0} → Kind C → Floor C → ℕ → ℕ → Both

@@ -8,13 +8,14 @@ use Rattle.plant.specs.Shifted.{close_fault, reopen_fault}
 use Rattle.search.specs.declared.call.Call.{Call}
 use Rattle.search.specs.declared.call.Call.TheVariants.{Close, Reopen, One, Two}
 use Rattle.search.specs.declared.fault.SearchFault.{SearchFault}
-use Rattle.search.specs.declared.fault.SearchFault.TheVariants.{Start, Goal, Replies}
+use Rattle.search.specs.declared.fault.SearchFault.TheVariants.{Replies}
 use Rattle.search.specs.declared.reply.CallFault.TheVariants.{Search, Shift}
 use Rattle.search.specs.declared.reply.Done.TheVariants.{Closed, Reopened, Searched as Told}
 use Rattle.search.specs.declared.row.Row.{Row}
 use Rattle.search.specs.Lists.{onto, onto_at}
 use Rattle.search.specs.OneWay.{one_way, one_route}
 use Rattle.search.specs.TwoWay.{two_way, two_route}
+use Rattle.search.specs.Faults.{search_fault}
 use Rattle.search.specs.Searched.{answer_of, nodes_of}
 use Rattle.search.specs.Calls.{Reply, Areas}
 use Rattle.search.specs.Life.{counts_of, rows_forward, rows_backward, too_short}
@@ -46,10 +47,6 @@ answer k F at call c nodes = record {
   near = rows_forward k F call;
   far = rows_backward k F call;
 }
-
--- why a search from s to t is refused, where `short` is the first work area that is too short
-abbrev pub search_fault : {C : Type 0} → Floor C → ℕ → ℕ → Option SearchFault → Option SearchFault
-search_fault f s t short = cond (nat_lt s f.nodes) (cond (nat_lt t f.nodes) short (Some (Goal t))) (Some (Start s))
 
 -- the reply to a call, where the lanes `closed` are closed and the places before `at` are taken
 abbrev pub made : {C : Type 0} → Kind C → Floor C → Areas → List ℕ → ℕ → Call → Made C

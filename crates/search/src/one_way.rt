@@ -12,6 +12,7 @@ ghost use Rattle.std.specs.Result.{result_err};
 
 use crate::answer::{Answer, Route};
 use crate::begin::begin;
+use crate::check::{check_node, check_queue, check_room};
 use crate::entry::Entry;
 use crate::fault::SearchFault;
 use crate::follow::follow_out;
@@ -139,22 +140,11 @@ pub fn one_way<P: Plant>(
     ensures searched { MatchResult result (λ a. Searched P.Cost.CostKind.kind (P.Plant.floor plant.now) start goal rows.old rows.new route.old route.new a) (λ _. (rows.new ≡ rows.old) × (queue.new ≡ queue.old) × (route.new ≡ route.old)) }
     ensures right { IfOk result (λ a. Right P.Cost.CostKind.kind (P.Plant.floor plant.now) start goal (cost_of P.Cost.CostKind.kind a) (take (node_count_of a) route.new) (take (P.Plant.floor plant.now).nodes rows.new)) }
 {
-    let nodes = plant.node_count();
-    if start >= nodes {
-        return Err(SearchFault::Start(start));
-    }
-    if goal >= nodes {
-        return Err(SearchFault::Goal(goal));
-    }
-    let n = nodes as usize;
-    if rows.len() < n {
-        return Err(SearchFault::Rows);
-    }
-    if queue.len() <= plant.lane_count() as usize {
-        return Err(SearchFault::Queue);
-    }
-    if route.len() < n {
-        return Err(SearchFault::Route);
-    }
+    check_node(plant, start, SearchFault::Start(start))?;
+    check_node(plant, goal, SearchFault::Goal(goal))?;
+    check_room(plant, rows, SearchFault::Rows)?;
+    check_queue(plant, queue)?;
+    check_room(plant, route, SearchFault::Route)?;
+    let n = plant.node_count() as usize;
     Ok(find(plant, start, goal, &mut rows[0..n], queue, route))
 }

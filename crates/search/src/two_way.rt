@@ -9,6 +9,7 @@ ghost use Rattle.search.specs.TwoWay.{two_way};
 ghost use Rattle.std.specs.Result.{result_err};
 
 use crate::answer::{Answer, Both, Route};
+use crate::check::{check_node, check_queue, check_room};
 use crate::entry::Entry;
 use crate::fault::SearchFault;
 use crate::meeting::Meeting;
@@ -79,30 +80,14 @@ pub fn two_way<P: Plant>(
     ensures searched { MatchResult result (λ a. SearchedBoth P.Cost.CostKind.kind (P.Plant.floor plant.now) start goal rows.old rows.new back.old back.new route.old route.new a) (λ _. (rows.new ≡ rows.old) × (back.new ≡ back.old) × (queue.new ≡ queue.old) × (back_queue.new ≡ back_queue.old) × (route.new ≡ route.old)) }
     ensures right { IfOk result (λ a. RightBoth P.Cost.CostKind.kind (P.Plant.floor plant.now) start goal (cost_of P.Cost.CostKind.kind a) (take (node_count_of a) route.new) (take (P.Plant.floor plant.now).nodes rows.new) (take (P.Plant.floor plant.now).nodes back.new)) }
 {
-    let nodes = plant.node_count();
-    if start >= nodes {
-        return Err(SearchFault::Start(start));
-    }
-    if goal >= nodes {
-        return Err(SearchFault::Goal(goal));
-    }
-    let n = nodes as usize;
-    if rows.len() < n {
-        return Err(SearchFault::Rows);
-    }
-    if back.len() < n {
-        return Err(SearchFault::Rows);
-    }
-    let lanes = plant.lane_count() as usize;
-    if queue.len() <= lanes {
-        return Err(SearchFault::Queue);
-    }
-    if back_queue.len() <= lanes {
-        return Err(SearchFault::Queue);
-    }
-    if route.len() < n {
-        return Err(SearchFault::Route);
-    }
+    check_node(plant, start, SearchFault::Start(start))?;
+    check_node(plant, goal, SearchFault::Goal(goal))?;
+    check_room(plant, rows, SearchFault::Rows)?;
+    check_room(plant, back, SearchFault::Rows)?;
+    check_queue(plant, queue)?;
+    check_queue(plant, back_queue)?;
+    check_room(plant, route, SearchFault::Route)?;
+    let n = plant.node_count() as usize;
     Ok(find_both(
         plant,
         start,

@@ -7,11 +7,12 @@ use Rattle.search.specs.declared.reply.CallFault.TheVariants.{Shift}
 use Rattle.search.specs.declared.reply.Done.TheVariants.{Closed, Reopened}
 use Rattle.search.specs.declared.row.Row.{Row}
 use Rattle.search.specs.Calls.{areas}
+use Rattle.search.specs.Faults.{search_fault}
 use Rattle.search.specs.Life.{too_short}
 use Rattle.search.specs.Lists.{onto}
 use Rattle.search.specs.OneWay.{one_way, one_route}
 use Rattle.search.specs.TwoWay.{two_way, two_route}
-use Rattle.search.specs.Served.{search_fault, made, Makes, closed_after}
+use Rattle.search.specs.Served.{made, Makes, closed_after}
 use Rattle.search.proofs.MadeFacts.{shift_accepts, shift_refuses, refused, search_keeps, one_far}
 use Rattle.search.proofs.calling.call_on.Goals as goal
 

@@ -5,9 +5,10 @@ use Rattle.plant.specs.Shifted.{closed_list}
 use Rattle.search.specs.declared.call.Call.TheVariants.{Two}
 use Rattle.search.specs.declared.reply.Done.TheVariants.{Searched as Told}
 use Rattle.search.specs.Calls.{areas}
+use Rattle.search.specs.Faults.{search_fault}
 use Rattle.search.specs.Life.{too_short}
 use Rattle.search.specs.TwoWay.{two_way, two_route}
-use Rattle.search.specs.Served.{answer, search_fault}
+use Rattle.search.specs.Served.{answer}
 use Rattle.search.proofs.AnswerFacts.{written}
 use Rattle.search.proofs.MadeFacts.{search_accepts, search_refuses, enough_rows, enough_back, two_fault_is, two_replied}
 use Rattle.search.proofs.calling.call_two.Goals as goal
