@@ -8,6 +8,7 @@ mod groups;
 pub mod hall;
 pub mod hall_questions;
 pub mod index;
+mod lane_ends;
 pub mod lane_plant;
 mod lengths;
 pub mod lists;
