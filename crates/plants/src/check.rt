@@ -7,7 +7,7 @@ ghost use Rattle.plants.specs.Faults.{counts_fit, ends_fit, cost_fits, table_fit
 use crate::fault::PlantFault;
 
 // An entry, 0 past the end.
-fn at(xs: &[u32], i: usize) -> u32
+pub(crate) fn at(xs: &[u32], i: usize) -> u32
     ensures { result ≡ slice_index xs.now i }
 {
     xs.get(i).copied().unwrap_or(0)
