@@ -2,6 +2,7 @@
 #![tactic(auto)]
 
 pub mod check;
+mod direction;
 pub mod fault;
 mod firsts;
 mod groups;
