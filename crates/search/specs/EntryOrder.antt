@@ -10,7 +10,9 @@ use Rattle.std.proofs.Math.Logic.{inl, inr}
 use Rattle.std.proofs.lemmas.Bool.{cases_Bool, both_ways, or_cases, or_parts, or_left, or_right, and_parts, and_cases, and_from, not_from_false, cond-true, cond-false, leb-true, leb-false, le-leb}
 use Rattle.cost.specs.Kind.{Kind, Laws}
 use Rattle.cost.specs.Ordered.{nat_ordered}
-use Rattle.queue.specs.Order.{Heap, ahead}
+use Rattle.queue.specs.Held.{Heaped}
+use Rattle.queue.specs.Order.{ahead}
+use Rattle.queue.specs.declared.heap.Queue.{Queue}
 use Rattle.search.specs.declared.entry.Entry.{Entry}
 use Rattle.search.specs.Rows.{below}
 use Rattle.search.specs.Steps.{earlier, ahead_of}
@@ -148,9 +150,9 @@ module _ {C : Type 0} (k : Kind C) (R : C → C → Ordering) (total : IsTotalOr
   pub entry_ordered : ahead_of k ≡ ahead (entry_cmp R)
   entry_ordered i a b = at a b i
 
-  -- a queue of entries is in the order `ahead_of`
-  pub heaped : (xs : List (Entry C)) (n : ℕ) → Heap (ahead (entry_cmp R)) xs 0 n → Heap (ahead_of k) xs 0 n
-  heaped xs n = subst (λ le. Heap le xs 0 n) (sym entry_ordered)
+  -- every queue of entries is in the order `ahead_of`
+  pub heaped : {o : _} {i : _} {p : _} (q : Queue (Entry C) o i p) → o.cmp ≡ entry_cmp R → Heaped (ahead_of k) q
+  heaped q e = subst (λ le. Heaped le q) (ap ahead e ∙ sym entry_ordered) q.heap
 
   -- what is at most each of the queue
   pub leasts : (e : Entry C) (es : List (Entry C)) → AllByRecursion (λ y. ahead (entry_cmp R) e y ≡ true) es → AllByRecursion (λ y. ahead_of k e y ≡ true) es

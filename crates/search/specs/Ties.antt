@@ -4,7 +4,7 @@ use Rattle.std.specs.List.{ContainsAt}
 use Rattle.cost.specs.Kind.{Kind}
 use Rattle.plant.specs.declared.lane.Lane.{Lane}
 use Rattle.plant.specs.Floor.{Floor}
-use Rattle.queue.specs.Held.{held, count, room, Heaped}
+use Rattle.queue.specs.Held.{held, count, room}
 use Rattle.queue.specs.declared.heap.Queue.{Queue}
 use Rattle.search.specs.declared.entry.Entry.{Entry}
 use Rattle.search.specs.declared.row.Row.{Row}
@@ -32,7 +32,6 @@ pub record Tied {C : Type 0} (k : Kind C) (f : Floor C) (goal : ℕ) (rows : Lis
   pub has : (v : ℕ) → (row_at k rows v).state ≡ Labelled → ContainsAt es (entry_of k f goal (row_at k rows v) v)
 
 pub record Front {C : Type 0} (k : Kind C) (f : Floor C) (goal : ℕ) (rows : List (Row C)) {o : _} {i : _} {p : _} (q : Queue (Entry C) o i p) : Type 0 where
-  pub heap : Heaped (ahead_of k) q
   pub tied : Tied k f goal rows (held q)
 
 -- e was the first live entry of es, and es' holds the live entries that are left

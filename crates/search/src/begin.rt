@@ -1,7 +1,7 @@
 // The rows and the queue of a search before its first step.
 ghost use Rattle.std.specs.Prelude.{◌≡◌, ◌<◌, length};
-ghost use Rattle.queue.specs.Held.{count, room, Heaped};
-ghost use Rattle.search.specs.Steps.{ahead_of, start_rows};
+ghost use Rattle.queue.specs.Held.{count, room};
+ghost use Rattle.search.specs.Steps.{start_rows};
 ghost use Rattle.search.specs.Ties.{Ready};
 
 use crate::entry::Entry;
@@ -22,7 +22,6 @@ pub(crate) fn begin<P: Plant>(
     requires rows { length rows.old ≡ (P.Plant.floor plant.now).nodes }
     requires start { start < (P.Plant.floor plant.now).nodes }
     requires empty { count queue.old ≡ 0 }
-    requires heap { Heaped (ahead_of P.Cost.CostKind.kind) queue.old }
     requires room { length (P.Plant.floor plant.now).lanes < room queue.old }
     ensures rows { rows.new ≡ start_rows P.Cost.CostKind.kind (P.Plant.floor plant.now) start }
     ensures ready { Ready P.Cost.CostKind.kind (P.Plant.floor plant.now) goal rows.new queue.new }

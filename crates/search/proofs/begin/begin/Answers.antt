@@ -5,7 +5,6 @@ use Rattle.queue.proofs.Uses.{took}
 use Rattle.search.specs.declared.entry.Entry.{Entry}
 use Rattle.search.specs.declared.row.Row.{Row}
 use Rattle.search.specs.declared.row.State.TheVariants.{Labelled}
-use Rattle.search.specs.EntryOrder.{heaped}
 use Rattle.search.specs.Rows.{blank_rows}
 use Rattle.search.specs.Steps.{start_rows}
 use Rattle.search.specs.Ties.{Ready, left_of, entry_of}
@@ -44,7 +43,7 @@ returns g c =
       rows = begins;
       ready = subst (λ (xs : List (Row g.row.P-Cost.Denot)). Ready k f goal xs q') (sym begins) (record {
         long = start_length k f start c.requires.start;
-        front = record { heap = heaped k g.P.Cost.Ord.cmp g.met.P.Cost.Ord.total g.met.P.Cost.CostKind.ordered q'.slots.now q'.len q'.heap; tied = start_tied k laws f start goal c.requires.start (held q') put };
+        front = record { tied = start_tied k laws f start goal c.requires.start (held q') put };
         fits = omega (arith, left, more, c.requires.empty, p.room, c.requires.room);
       });
     }

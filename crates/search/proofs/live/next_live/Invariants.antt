@@ -1,15 +1,13 @@
 use Rattle.std.proofs.Common.{◌≡◌, ◌≤◌}
 use Rattle.std.specs.List.{ContainsAt}
-use Rattle.queue.specs.Held.{held, count, room, Heaped}
+use Rattle.queue.specs.Held.{held, count, room}
 use Rattle.search.specs.declared.entry.Entry.{Entry}
-use Rattle.search.specs.Steps.{ahead_of}
 use Rattle.search.specs.Ties.{Live}
 use Rattle.search.proofs.live.next_live.Given as goal
 
 abbrev pub invariant-loop-e : goal.invariant-loop-e
 invariant-loop-e g l =
-    Heaped (ahead_of g.C.CostKind.kind) l.queue
-    × (room l.queue ≡ room l.initial.queue)
+    (room l.queue ≡ room l.initial.queue)
     × (count l.queue ≤ count l.initial.queue)
     × ((y : Entry g.row.C.Denot) → ContainsAt (held l.queue) y → ContainsAt (held l.initial.queue) y)
     × ((y : Entry g.row.C.Denot) → ContainsAt (held l.initial.queue) y → Live g.C.CostKind.kind l.rows y → ContainsAt (held l.queue) y)

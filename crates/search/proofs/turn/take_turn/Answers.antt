@@ -50,7 +50,7 @@ settle_at-met-requires g c =
         long = c.requires.ready.long;
         within = within;
         live = told.next.live;
-        front = λ s done. record { heap = told.heap; tied = tied_scan k laws f target s done rows es (held q) e (omega (arith, within, c.requires.ready.long)) tied told.next };
+        front = λ s done. record { tied = tied_scan k laws f target s done rows es (held q) e (omega (arith, within, c.requires.ready.long)) tied told.next };
         fits = omega (arith, told.count, told.room, c.requires.ready.fits);
       };
     }

@@ -3,22 +3,19 @@ use Rattle.std.proofs.lemmas.List.{length-map}
 use Rattle.std.proofs.lemmas.Bool.{cond_both}
 use Rattle.plant.specs.Floor.{turn}
 use Rattle.search.specs.declared.meeting.Meeting.{Meeting}
-use Rattle.search.specs.EntryOrder.{heaped}
 use Rattle.search.specs.TwoWay.{Both, both_of, two_from, two_way}
 use Rattle.search.proofs.two_sides.run_both.Goals as goal
 
 pub begin-requires : goal.begin-requires
 begin-requires g c =
-    let q = c.new-queue.result in
     let fresh = c.new-queue.ensures in
-    record { rows = c.requires.rows; start = c.requires.start; empty = fresh.count; heap = heaped g.P.Cost.CostKind.kind g.P.Cost.Ord.cmp g.met.P.Cost.Ord.total g.met.P.Cost.CostKind.ordered q.slots.now q.len q.heap; room = omega (arith, fresh.room, c.requires.room) }
+    record { rows = c.requires.rows; start = c.requires.start; empty = fresh.count; room = omega (arith, fresh.room, c.requires.room) }
 
 pub begin-requires-2 : goal.begin-requires-2
 begin-requires-2 g c =
     let f = g.P.Plant.floor c.args.plant.now in
-    let q = c.new-back_queue.result in
     let fresh = c.new-back_queue.ensures in
-    record { rows = c.requires.back; start = c.requires.goal; empty = fresh.count; heap = heaped g.P.Cost.CostKind.kind g.P.Cost.Ord.cmp g.met.P.Cost.Ord.total g.met.P.Cost.CostKind.ordered q.slots.now q.len q.heap; room = omega (arith, length-map f.lanes turn, fresh.room, c.requires.space) }
+    record { rows = c.requires.back; start = c.requires.goal; empty = fresh.count; room = omega (arith, length-map f.lanes turn, fresh.room, c.requires.space) }
 
 pub take_turns-requires : goal.take_turns-requires
 take_turns-requires g c =
