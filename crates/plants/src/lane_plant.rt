@@ -3,13 +3,13 @@ ghost use Rattle.std.specs.Prelude.{◌≡◌, true};
 ghost use Rattle.plants.specs.Columns.{columns};
 ghost use Rattle.plants.specs.Faults.{is_lawful};
 
-use crate::lists::PlantLists;
+use crate::lists::Lists;
 
 // A plant over lists of the caller, which no test refuses.
 #[derive(Clone, Copy)]
 pub struct LanePlant<'a> {
     pub(crate) nodes: u32,
     pub(crate) landmarks: u32,
-    pub(crate) lists: PlantLists<'a>,
+    pub(crate) lists: Lists<'a>,
     ghost lawful: { is_lawful nodes landmarks (columns lists) ≡ true },
 }

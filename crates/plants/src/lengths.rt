@@ -6,7 +6,7 @@ ghost use Rattle.plants.specs.Columns.{columns};
 ghost use Rattle.plants.specs.Faults.{index_lengths_fit, lengths_fit};
 
 use crate::fault::PlantFault;
-use crate::lists::PlantLists;
+use crate::lists::Lists;
 
 // How long the heads and the three index lists are.
 #[derive(Clone, Copy, PartialEq, Eq)]
@@ -32,7 +32,7 @@ impl IndexLengths {
     }
 }
 
-pub(crate) fn check_lengths(nodes: u32, landmarks: u32, lists: PlantLists) -> Result<(), PlantFault>
+pub(crate) fn check_lengths(nodes: u32, landmarks: u32, lists: Lists) -> Result<(), PlantFault>
     ensures { result_err result ≡ (if lengths_fit nodes landmarks (columns lists.entry) then None else Some Lengths) }
 {
     let lanes = lists.tails.len();

@@ -2,7 +2,7 @@
 
 // A compressed sparse row graph, by tail and by head, with the tables of its landmarks. `L` is how a list is held.
 #[derive(Clone, Copy, Drop)]
-pub struct Lists<L> {
+pub struct ListsOf<L> {
     // by lane number; tails never fall
     pub tails: L,
     pub heads: L,
@@ -17,5 +17,5 @@ pub struct Lists<L> {
     pub from: L,
 }
 
-// Lists to read.
-pub type PlantLists<'a> = Lists<&'a [u32]>;
+// The lists of a plant, to be read.
+pub type Lists<'a> = ListsOf<&'a [u32]>;

@@ -10,11 +10,11 @@ use crate::fault::PlantFault;
 use crate::lane_ends::Ends;
 use crate::lane_plant::LanePlant;
 use crate::lengths::check_lengths;
-use crate::lists::{Lists, PlantLists};
+use crate::lists::Lists;
 use crate::tables::check_tables;
 
 // The six tests in order, each in time linear in the lists that it reads.
-fn test(nodes: u32, landmarks: u32, lists: PlantLists) -> Result<(), PlantFault>
+fn test(nodes: u32, landmarks: u32, lists: Lists) -> Result<(), PlantFault>
     ensures { result_err result ≡ plant_fault nodes landmarks (columns lists.entry) }
 {
     check_counts(nodes, lists.tails.len(), landmarks)?;
@@ -36,7 +36,7 @@ fn test(nodes: u32, landmarks: u32, lists: PlantLists) -> Result<(), PlantFault>
 }
 
 // Whether the three index lists are those of the tails and heads. All are made anew, and compared.
-fn fits_index(tails: Ends, heads: Ends, lists: PlantLists) -> bool
+fn fits_index(tails: Ends, heads: Ends, lists: Lists) -> bool
     requires nodes { heads.nodes ≡ tails.nodes }
     requires tails { tails.list.now ≡ lists.tails.now }
     requires heads { heads.list.now ≡ lists.heads.now }
@@ -49,11 +49,7 @@ fn fits_index(tails: Ends, heads: Ends, lists: PlantLists) -> bool
 
 impl<'a> LanePlant<'a> {
     // The plant that the lists make, or the first test that they fail.
-    pub fn new(
-        nodes: u32,
-        landmarks: u32,
-        lists: PlantLists<'a>,
-    ) -> Result<LanePlant<'a>, PlantFault>
+    pub fn new(nodes: u32, landmarks: u32, lists: Lists<'a>) -> Result<LanePlant<'a>, PlantFault>
         ensures fault { result_err result ≡ plant_fault nodes landmarks (columns lists.entry) }
         ensures made { IfOk result (λ plant. (plant.nodes ≡ nodes) × (plant.landmarks ≡ landmarks) × (columns plant.lists ≡ columns lists.entry)) }
     {
@@ -71,7 +67,7 @@ pub fn make<'a>(
     plant: &mut LanePlant<'a>,
     nodes: u32,
     landmarks: u32,
-    lists: PlantLists<'a>,
+    lists: Lists<'a>,
 ) -> Result<(), PlantFault>
     ensures fault { result_err result ≡ plant_fault nodes landmarks (columns lists.entry) }
     ensures made { MatchResult result (λ _. (plant.new.nodes ≡ nodes) × (plant.new.landmarks ≡ landmarks) × (columns plant.new.lists ≡ columns lists.entry)) (λ _. plant.new ≡ plant.old) }

@@ -6,9 +6,9 @@ ghost use Rattle.plants.specs.Faults.{table_fault};
 
 use crate::check::check_landmark;
 use crate::fault::PlantFault;
-use crate::lists::PlantLists;
+use crate::lists::Lists;
 
-pub(crate) fn check_tables(nodes: u32, landmarks: u32, lists: PlantLists) -> Result<(), PlantFault>
+pub(crate) fn check_tables(nodes: u32, landmarks: u32, lists: Lists) -> Result<(), PlantFault>
     requires some { 0 < nodes }
     requires to { length lists.to.now ≡ landmarks * nodes }
     requires from { length lists.from.now ≡ landmarks * nodes }
