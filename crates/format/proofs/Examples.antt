@@ -2,7 +2,7 @@
 use Rattle.std.proofs.Common.{◌≡◌, ℕ, true, ◌&&◌, leb, List, [], ◌∷◌, ◌++◌, codes, refl}
 use Rattle.format.specs.Plain.{Plain, Lane, Lawful}
 use Rattle.format.specs.Form.{scan, belongs}
-use Rattle.format.specs.Items.{unsound, many, values, triple, table, plant_form, lane_form, mark_form}
+use Rattle.format.specs.Items.{unsound, many, triple, table, plant_form, lane_form, mark_form}
 use Rattle.format.specs.Turns.{Got, got, lost, tokens, form, forms, lines}
 use Rattle.format.specs.Checks.{loose, failing, contradicted, Room, tested}
 use Rattle.format.specs.Read.{read}

@@ -1,5 +1,5 @@
 -- The numbers of a form, one after another; and the forms that have one, two or three.
-use Rattle.std.proofs.Common.{◌≡◌, ℕ, zero, suc, List, [], ◌∷◌, ◌++◌, Option, slice_index, sym, refl, ap, ◌∙◌, append_assoc, append-nil}
+use Rattle.std.proofs.Common.{◌≡◌, ℕ, suc, List, [], ◌∷◌, ◌++◌, Option, slice_index, sym, refl, ap, ◌∙◌, append_assoc, append-nil}
 use Rattle.std.specs.Option.{option_map}
 use Rattle.format.specs.Form.{Token}
 use Rattle.format.specs.Items.{Took, took, other, then, opens, closes, says, begins, number, many, values, numbers_form, triple, table, mark_form, mark_word, to_word, from_word, all}

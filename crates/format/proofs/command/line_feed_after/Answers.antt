@@ -1,4 +1,4 @@
-use Rattle.std.proofs.Common.{◌≡◌, ◌-◌, length, drop, sym, ap, ◌∙◌, arith, length-drop}
+use Rattle.std.proofs.Common.{length, ap, arith, length-drop}
 use Rattle.format.specs.Commands.{behind_feed}
 use Rattle.format.proofs.Feeds.{feed_some, feed_none}
 use Rattle.format.proofs.command.line_feed_after.Goals as goal

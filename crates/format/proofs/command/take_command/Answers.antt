@@ -1,4 +1,4 @@
-use Rattle.std.proofs.Common.{slice_index, ◌∙◌, rules}
+use Rattle.std.proofs.Common.{◌∙◌}
 use Rattle.format.specs.Commands.{one_word, two_word, close_word, reopen_word}
 use Rattle.format.proofs.Exits.{none_from}
 use Rattle.format.proofs.Numbered.{single_all, pair_all}

@@ -1,4 +1,4 @@
-use Rattle.std.proofs.Common.{◌<◌, get_or, sym, ◌∙◌, arith}
+use Rattle.std.proofs.Common.{◌<◌, get_or, sym, arith}
 use Rattle.format.proofs.RunEnds.{front_on, front_off, front_whole}
 use Rattle.format.proofs.cursor.run.Goals as goal
 

@@ -1,6 +1,6 @@
-use Rattle.std.proofs.Common.{◌≡◌, ℕ, List, ◌+◌, ◌-◌, ◌<◌, length, drop, sym, ap, ◌∙◌, subst, arith, None}
+use Rattle.std.proofs.Common.{◌≡◌, ℕ, List, ◌+◌, ◌-◌, ◌<◌, length, drop, sym, ap, ◌∙◌, subst, arith}
 use Rattle.format.specs.declared.token.Line.{Line}
-use Rattle.format.specs.Lex.{item, over, lex, gap, width}
+use Rattle.format.specs.Lex.{item, over, lex, gap}
 use Rattle.format.specs.Told.{token_of, Met}
 use Rattle.format.proofs.Exits.{none_from}
 use Rattle.format.proofs.Left.{Left, left_start, left_none, left_next, left_bad, wide, within_text, sound_from, unsound_from}

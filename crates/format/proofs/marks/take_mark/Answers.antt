@@ -1,8 +1,7 @@
-use Rattle.std.proofs.Common.{sym}
 use Rattle.format.specs.Plain.{Mark}
 use Rattle.format.specs.Items.{begins, closes, table, mark_word, to_word, from_word}
 use Rattle.format.specs.Places.{TokensAt}
-use Rattle.format.proofs.Taking.{some_past, none_past, some_table, none_table, all_if, taken_if}
+use Rattle.format.proofs.Taking.{some_past, none_past, some_table, none_table, taken_if}
 use Rattle.format.proofs.Numbered.{mark_begins}
 use Rattle.format.proofs.marks.take_mark.Goals as goal
 

@@ -1,4 +1,4 @@
-use Rattle.format.specs.Items.{begins, values, closes, table}
+use Rattle.format.specs.Items.{begins, values, closes}
 use Rattle.format.specs.Places.{passed}
 use Rattle.format.proofs.Taking.{some_past, none_past, passed_by, passed_none}
 use Rattle.format.proofs.Numbered.{table_begins}

@@ -1,5 +1,5 @@
-use Rattle.std.proofs.Common.{◌≡◌, ◌+◌, drop, None, rules}
-use Rattle.format.specs.Lex.{lex, item, over, gap, width}
+use Rattle.std.proofs.Common.{◌≡◌, drop, rules}
+use Rattle.format.specs.Lex.{lex, item, over}
 use Rattle.format.specs.Told.{token_of}
 use Rattle.format.proofs.Places.{at_some, at_none}
 use Rattle.format.proofs.cursor.Cursor.next.Goals as goal

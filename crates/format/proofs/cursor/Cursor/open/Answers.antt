@@ -1,5 +1,4 @@
-use Rattle.format.specs.Items.{opens, begins}
-use Rattle.format.specs.Places.{TookPast}
+use Rattle.format.specs.Items.{opens}
 use Rattle.format.proofs.Taking.{passes_open, passes_word, some_past, none_past}
 use Rattle.format.proofs.cursor.Cursor.open.Goals as goal
 
