@@ -1,12 +1,12 @@
 -- The laws of classes.
 use Rattle.std.specs.Prelude.{◌≡◌, ℕ, ◌≤◌, max, true, nat_le}
-use Rattle.std.proofs.Common.{ap, inl, inr, ⊎_elim, arith}
+use Rattle.std.proofs.Common.{ap, arith}
 use mathlib.Core.HLevel.{is_prop→PathP}
 use Rattle.std.proofs.Math.Bridge.{le_prop}
-use Rattle.std.proofs.lemmas.Bool.{leb-true, leb-false, le-leb, cases_lt, cond_both}
+use Rattle.std.proofs.lemmas.Bool.{leb-true, leb-false, le-leb, cond_both}
 use Rattle.std.specs.Ordering.{is_le, nat_cmp}
 use Rattle.cost.specs.Kind.{Laws}
-use Rattle.cost.specs.Ordered.{nat_ordered}
+use Rattle.cost.specs.Ordered.{le_total, le_trans, le_antisym, nat_ordered}
 use Rattle.cost.specs.Class.{class_kind}
 use Rattle.cost.specs.declared.class.Class.{Class}
 
@@ -19,9 +19,9 @@ same_class a b e = λ i. record {
 
 pub class_laws : Laws class_kind
 class_laws = record {
-  total = λ a b. ⊎_elim (λ l. inl (le-leb _ _ (omega arith))) (λ l. inr (le-leb _ _ l)) (cases_lt a.grade b.grade);
-  trans = λ a b c p q. le-leb _ _ (omega (arith, leb-true _ _ p, leb-true _ _ q));
-  antisym = λ a b p q. same_class a b (omega (arith, leb-true _ _ p, leb-true _ _ q));
+  total = λ a b. le_total a.grade b.grade;
+  trans = λ a b c. le_trans a.grade b.grade c.grade;
+  antisym = λ a b p q. same_class a b (le_antisym _ _ p q);
   zero_least = λ a. le-leb _ _ (omega arith);
   beyond_greatest = λ a. le-leb _ _ a.ok;
   apart = λ e. let z : ◌≡◌ {A = ℕ} 0 255 = ap (λ x. x.grade) e in omega arith;

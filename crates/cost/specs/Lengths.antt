@@ -1,11 +1,12 @@
+-- The laws of lengths.
 use Rattle.std.specs.Prelude.{◌≡◌, ℕ, ◌≤◌}
-use Rattle.std.proofs.Common.{ap, inl, inr, ⊎_elim, arith}
+use Rattle.std.proofs.Common.{ap, arith}
 use mathlib.Core.HLevel.{is_prop→PathP}
 use Rattle.std.proofs.Math.Bridge.{le_prop}
-use Rattle.std.proofs.lemmas.Bool.{leb-true, le-leb, cases_lt}
+use Rattle.std.proofs.lemmas.Bool.{leb-true, le-leb}
 use Rattle.std.specs.Ordering.{is_le, nat_cmp}
 use Rattle.cost.specs.Kind.{Laws}
-use Rattle.cost.specs.Ordered.{nat_ordered}
+use Rattle.cost.specs.Ordered.{le_total, le_trans, le_antisym, nat_ordered}
 use Rattle.cost.specs.Length.{length_kind}
 use Rattle.cost.specs.declared.length.Length.{Length}
 
@@ -17,9 +18,9 @@ same_length a b e = λ i. record {
 
 pub length_laws : Laws length_kind
 length_laws = record {
-  total = λ a b. ⊎_elim (λ l. inl (le-leb _ _ (omega arith))) (λ l. inr (le-leb _ _ l)) (cases_lt a.metres b.metres);
-  trans = λ a b c p q. le-leb _ _ (omega (arith, leb-true _ _ p, leb-true _ _ q));
-  antisym = λ a b p q. same_length a b (omega (arith, leb-true _ _ p, leb-true _ _ q));
+  total = λ a b. le_total a.metres b.metres;
+  trans = λ a b c. le_trans a.metres b.metres c.metres;
+  antisym = λ a b p q. same_length a b (le_antisym _ _ p q);
   zero_least = λ a. le-leb _ _ (omega arith);
   beyond_greatest = λ a. le-leb _ _ a.ok;
   apart = λ e. let z : ◌≡◌ {A = ℕ} 0 4294967295 = ap (λ x. x.metres) e in omega arith;

@@ -17,17 +17,15 @@ impl CostKind for Class {
     }
 
     fn beyond() -> Class {
-        Class { grade: 255 }
+        Class { grade: u8::MAX }
     }
 
     fn join(self, other: Class) -> Class {
-        Class {
-            grade: self.grade.max(other.grade),
-        }
+        self.max(other)
     }
 
     fn rest(self, other: Class) -> Class {
-        if self.grade <= other.grade {
+        if self <= other {
             return Class { grade: 0 };
         }
         self

@@ -17,7 +17,7 @@ impl CostKind for Length {
     }
 
     fn beyond() -> Length {
-        Length { metres: 4294967295 }
+        Length { metres: u32::MAX }
     }
 
     fn join(self, other: Length) -> Length {

@@ -3,6 +3,7 @@
 
 mod halls;
 mod piles;
+mod show;
 mod ties;
 
 use std::io;

@@ -1,5 +1,5 @@
 // Equal routes, where the smaller node number decides; and the plant of one node.
-use crate::piles::route_on;
+use crate::show::route_on;
 use plants::lists::Lists;
 use plants::make::{lone, make};
 use std::io;
@@ -21,12 +21,12 @@ pub fn equal(rt: &HostRuntime) -> io::Result<()> {
     };
     let mut plant = lone();
     match make(&mut plant, 4, 0, lists) {
-        Ok(()) => route_on(rt, &plant, 0, 3),
+        Ok(()) => route_on(rt, &plant, 0, 3, &mut [0; 4]),
         Err(_) => Ok(()),
     }
 }
 
 pub fn one_node(rt: &HostRuntime) -> io::Result<()> {
     let plant = lone();
-    route_on(rt, &plant, 0, 0)
+    route_on(rt, &plant, 0, 0, &mut [0; 4])
 }

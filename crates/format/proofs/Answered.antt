@@ -108,12 +108,12 @@ few_marks nodes lanes landmarks e =
     let c = and_parts (leb lanes 16384) _ b.1 in
     leb-true landmarks 16 c.1
 
-pub kept_marks : (n n' k : ℕ) (src : List ℕ) (ms : List Mark) (xs : List MarkPlace) → n ≡ n' → length ms ≡ k → k ≤ length xs → MarksKept n src ms xs → MarksAt n' src ms (take (k - 0) (drop 0 xs))
-kept_marks n n' k src ms xs e l h m =
+pub kept_marks : (n n' k : ℕ) (ms : List Mark) (xs : List MarkPlace) → n ≡ n' → length ms ≡ k → k ≤ length xs → MarksKept n ms xs → MarksAt n' ms (take (k - 0) (drop 0 xs))
+kept_marks n n' k ms xs e l h m =
     let d : length ms ≡ k - 0 = omega arith in
     let a = m (omega arith) in
-    let b = subst (λ i. MarksAt n src ms (take i xs)) d a in
-    subst (λ i. MarksAt i src ms (take (k - 0) xs)) e b
+    let b = subst (λ i. MarksAt n ms (take i xs)) d a in
+    subst (λ i. MarksAt i ms (take (k - 0) xs)) e b
 
 pub kept_column : (f : Lane → ℕ) (ls : List Lane) (before after : List ℕ) (n : ℕ) → length ls ≡ n → n ≤ length before → Begins (map f ls) before after → take (n - 0) (drop 0 after) ≡ map f ls
 kept_column f ls before after n e h b =

@@ -2,7 +2,7 @@
 use Rattle.std.proofs.Common.{◌≡◌, ℕ, true, ◌&&◌, leb, List, [], ◌∷◌, ◌++◌, codes, refl}
 use Rattle.format.specs.Plain.{Plain, Lane, Lawful}
 use Rattle.format.specs.Form.{scan, belongs}
-use Rattle.format.specs.Items.{unsound, values, triple, table, plant_form, lane_form, mark_form}
+use Rattle.format.specs.Items.{unsound, many, triple, table, plant_form, lane_form, mark_form}
 use Rattle.format.specs.Turns.{Got, got, lost, tokens, form, forms, lines}
 use Rattle.format.specs.Checks.{loose, failing, contradicted, Room, tested}
 use Rattle.format.specs.Read.{read}
@@ -19,7 +19,7 @@ narrow n l m = leb n 128 && (leb l 512 && leb m 4)
 
 -- what reading opens
 abbrev computed : Room → List ℕ → Got Plain
-unfolding scan belongs unsound values triple table plant_form lane_form mark_form tokens form forms lines loose failing contradicted tested read
+unfolding scan belongs unsound many triple table plant_form lane_form mark_form tokens form forms lines loose failing contradicted tested read
 computed room t = read room t
 
 abbrev fault : ℕ → ℕ → ℕ → ℕ → Got Plain

@@ -107,16 +107,16 @@ column_more f xs a before now k e b h =
 
 -- the places of the landmarks
 
-marks_push : (n : ℕ) (src : List ℕ) (ms : List Mark) (xs : List MarkPlace) (m : Mark) (x : MarkPlace) → MarksAt n src ms xs → MarkAt n src m x → MarksAt n src (ms ++ (m ∷ [])) (xs ++ (x ∷ []))
-marks_push n src [] [] m x h a = (a, tt)
-marks_push n src [] (y ∷ ys) m x h a = absurd h
-marks_push n src (l ∷ ms) [] m x h a = absurd h
-marks_push n src (l ∷ ms) (y ∷ ys) m x h a = (h.0, marks_push n src ms ys m x h.1 a)
+marks_push : (n : ℕ) (ms : List Mark) (xs : List MarkPlace) (m : Mark) (x : MarkPlace) → MarksAt n ms xs → MarkAt n m x → MarksAt n (ms ++ (m ∷ [])) (xs ++ (x ∷ []))
+marks_push n [] [] m x h a = (a, tt)
+marks_push n [] (y ∷ ys) m x h a = absurd h
+marks_push n (l ∷ ms) [] m x h a = absurd h
+marks_push n (l ∷ ms) (y ∷ ys) m x h a = (h.0, marks_push n ms ys m x h.1 a)
 
-pub marks_more : (n : ℕ) (src : List ℕ) (ms : List Mark) (m : Mark) (x : MarkPlace) (marks : List MarkPlace) (k : ℕ) → length ms ≡ k → MarkAt n src m x → (length ms ≤ length marks → MarksAt n src ms (take (length ms) marks)) → length (ms ++ (m ∷ [])) ≤ length (set marks k x) → length (set marks k x) ≡ length marks → MarksAt n src (ms ++ (m ∷ [])) (take (length (ms ++ (m ∷ []))) (set marks k x))
-marks_more n src ms m x marks k e a b h l =
+pub marks_more : (n : ℕ) (ms : List Mark) (m : Mark) (x : MarkPlace) (marks : List MarkPlace) (k : ℕ) → length ms ≡ k → MarkAt n m x → (length ms ≤ length marks → MarksAt n ms (take (length ms) marks)) → length (ms ++ (m ∷ [])) ≤ length (set marks k x) → length (set marks k x) ≡ length marks → MarksAt n (ms ++ (m ∷ [])) (take (length (ms ++ (m ∷ []))) (set marks k x))
+marks_more n ms m x marks k e a b h l =
     let s = push_long ms m k e in
     let in-it : k < length marks = omega arith in
     let was = b (omega arith) in
-    let now = marks_push n src ms (take (length ms) marks) m x was a in
-    subst (MarksAt n src (ms ++ (m ∷ []))) (ap (λ i. take i marks ++ (x ∷ [])) e ∙ (sym (take_more_set marks k x in-it) ∙ ap (λ i. take i (set marks k x)) (sym s))) now
+    let now = marks_push n ms (take (length ms) marks) m x was a in
+    subst (MarksAt n (ms ++ (m ∷ []))) (ap (λ i. take i marks ++ (x ∷ [])) e ∙ (sym (take_more_set marks k x in-it) ∙ ap (λ i. take i (set marks k x)) (sym s))) now

@@ -1,7 +1,8 @@
 -- The tokens of a line that are left at a place of the text, while its numbers are tested.
-use Rattle.std.proofs.Common.{◌≡◌, ℕ, suc, ◌+◌, ◌-◌, ◌<◌, ◌≤◌, Bool, true, false, eqb, List, [], ◌∷◌, ◌++◌, length, drop, Some, None, Option, sym, refl, ap, ◌∙◌, subst, arith, drop-drop}
+use Rattle.std.proofs.Common.{◌≡◌, ℕ, suc, ◌+◌, ◌-◌, ◌<◌, ◌≤◌, Bool, true, false, eqb, leb, List, [], ◌∷◌, ◌++◌, length, drop, Some, None, Option, sym, refl, ap, ◌∙◌, subst, arith, drop-drop}
 use Rattle.std.specs.List.{AllByRecursion}
-use Rattle.std.proofs.lemmas.Bool.{cond-false, cond_both}
+use Rattle.std.proofs.lemmas.Bool.{cond-false, cond_both, leb-true, leb-false}
+use Rattle.std.proofs.lemmas.List.{drop_all}
 use Rattle.format.specs.Form.{Kind, letters, digits, Token, opened, closed, hyphen, run, begin, line, scan, belongs}
 use Rattle.format.specs.Items.{sound, sound_token, spaced, unsound}
 use Rattle.format.specs.Lex.{front, Lexed, item, over, lex_item, lex, gap, width}
@@ -104,6 +105,14 @@ left_bad src from at b ts rest w p q s l =
     let n = left_some src from at ts rest (run digits w) l q in
     let g = ap gap n.here in
     n.same ∙ (unsound_here n.flag w n.us rest (at - from + 1) n.good s ∙ ap Some (let e : at - from + 1 + gap (spelled n.flag (run digits w ∷ n.us) (10 ∷ rest)) ≡ b = omega arith in e))
+
+-- a token stands within the text
+pub within_text : (src : List ℕ) (at : ℕ) (k : Token) → lex (drop at src) ≡ item k → at < length src
+within_text src at k e = by (leb (length src) at) refl
+  where
+    by : (b : Bool) → leb (length src) at ≡ b → at < length src
+    by true q = let o = ap lex (drop_all at src (leb-true (length src) at q)) in absurd (let z : ◌≡◌ {A = ℕ} 0 1 = cc in omega arith)
+    by false q = leb-false (length src) at q
 
 -- a token has some bytes, and at most one space before it
 

@@ -25,3 +25,6 @@ mod Parts
 mod Answered
 mod Tables
 mod CommandLines
+mod Numbered
+mod Exits
+mod Feeds

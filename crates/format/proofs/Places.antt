@@ -4,7 +4,7 @@ use Rattle.std.specs.List.{AllByRecursion}
 use Rattle.format.specs.Form.{Token, opened, closed, hyphen, run, letters, digits, begin, line, scan}
 use Rattle.format.specs.Items.{sound_token, unsound, Took, took, other}
 use Rattle.format.specs.Lex.{item, over, lex, gap, width}
-use Rattle.format.specs.Places.{TokensAt, Agrees}
+use Rattle.format.specs.Places.{TokensAt, Ahead, Agrees}
 use Rattle.format.proofs.Spelled.{spelled, Good, scanned_only}
 use Rattle.format.proofs.Sounds.{Sound, none_sound}
 use Rattle.format.proofs.Lexes.{ends_item, lexes, lexes_over, lexes_on}
@@ -34,13 +34,6 @@ line_at src from ts rest e u = let s = scanned_only (drop from src) ts rest e in
 pub at_none : (src : List ℕ) (at : ℕ) (ts : List Token) → lex (drop at src) ≡ over → TokensAt src at ts → ts ≡ []
 at_none src at [] e h = refl
 at_none src at (k ∷ ts) e h = let q = h.0 in absurd (let z : ◌≡◌ {A = ℕ} 0 1 = cc in omega arith)
-
--- the token k is next, and ends at e
-pub record Ahead (src : List ℕ) (e : ℕ) (ts : List Token) (k : Token) : Type 0 where
-  pub us : List Token
-  pub is : ts ≡ k ∷ us
-  pub sounds : sound_token k ≡ true
-  pub there : TokensAt src e us
 
 pub at_some : (src : List ℕ) (at e : ℕ) (ts : List Token) (k : Token) → lex (drop at src) ≡ item k → e ≡ at + gap (drop at src) + width k → TokensAt src at ts → Ahead src e ts k
 at_some src at e [] k q p h = absurd (let z : ◌≡◌ {A = ℕ} 0 1 = cc in omega arith)

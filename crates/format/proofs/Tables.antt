@@ -22,44 +22,44 @@ row_long a n rows h =
 
 -- the landmarks and their places
 
-pub marks_long : (n : ℕ) (src : List ℕ) (ms : List Mark) (xs : List MarkPlace) → MarksAt n src ms xs → length ms ≡ length xs
-marks_long n src [] [] h = refl
-marks_long n src [] (x ∷ xs) h = absurd h
-marks_long n src (m ∷ ms) [] h = absurd h
-marks_long n src (m ∷ ms) (x ∷ xs) h = ap suc (marks_long n src ms xs h.1)
+pub marks_long : (n : ℕ) (ms : List Mark) (xs : List MarkPlace) → MarksAt n ms xs → length ms ≡ length xs
+marks_long n [] [] h = refl
+marks_long n [] (x ∷ xs) h = absurd h
+marks_long n (m ∷ ms) [] h = absurd h
+marks_long n (m ∷ ms) (x ∷ xs) h = ap suc (marks_long n ms xs h.1)
 
-pub record Nth (n : ℕ) (src : List ℕ) (ms : List Mark) (x : MarkPlace) (m : ℕ) : Type 0 where
+pub record Nth (n : ℕ) (ms : List Mark) (x : MarkPlace) (m : ℕ) : Type 0 where
   pub mark : Mark
   pub next : take (suc m) ms ≡ take m ms ++ (mark ∷ [])
-  pub here : MarkAt n src mark x
+  pub here : MarkAt n mark x
 
-pub marks_nth : (n : ℕ) (src : List ℕ) (ms : List Mark) (xs : List MarkPlace) (d : MarkPlace) (m : ℕ) → MarksAt n src ms xs → m < length xs → Nth n src ms (get_or xs m d) m
-marks_nth n src [] [] d m h l = absurd (omega arith)
-marks_nth n src [] (x ∷ xs) d m h l = absurd h
-marks_nth n src (k ∷ ms) [] d m h l = absurd h
-marks_nth n src (k ∷ ms) (x ∷ xs) d zero h l = record { mark = k; next = refl; here = h.0 }
-marks_nth n src (k ∷ ms) (x ∷ xs) d (suc m) h l =
-    let r = marks_nth n src ms xs d m h.1 (omega arith) in
+pub marks_nth : (n : ℕ) (ms : List Mark) (xs : List MarkPlace) (d : MarkPlace) (m : ℕ) → MarksAt n ms xs → m < length xs → Nth n ms (get_or xs m d) m
+marks_nth n [] [] d m h l = absurd (omega arith)
+marks_nth n [] (x ∷ xs) d m h l = absurd h
+marks_nth n (k ∷ ms) [] d m h l = absurd h
+marks_nth n (k ∷ ms) (x ∷ xs) d zero h l = record { mark = k; next = refl; here = h.0 }
+marks_nth n (k ∷ ms) (x ∷ xs) d (suc m) h l =
+    let r = marks_nth n ms xs d m h.1 (omega arith) in
     record { mark = r.mark; next = ap (λ ns. k ∷ ns) r.next; here = r.here }
 
 -- rows of one length
-rows_long : (f : Mark → List ℕ) (n : ℕ) (src : List ℕ) → ((k : Mark) (x : MarkPlace) → MarkAt n src k x → length (f k) ≡ n) → (ms : List Mark) (xs : List MarkPlace) (m : ℕ) → MarksAt n src ms xs → m ≤ length xs → length (joined (map f (take m ms))) ≡ m * n
-rows_long f n src long ms xs zero h l = sym (zero-mul n)
-rows_long f n src long [] [] (suc m) h l = absurd (omega arith)
-rows_long f n src long [] (x ∷ xs) (suc m) h l = absurd h
-rows_long f n src long (k ∷ ms) [] (suc m) h l = absurd h
-rows_long f n src long (k ∷ ms) (x ∷ xs) (suc m) h l =
+rows_long : (f : Mark → List ℕ) (n : ℕ) → ((k : Mark) (x : MarkPlace) → MarkAt n k x → length (f k) ≡ n) → (ms : List Mark) (xs : List MarkPlace) (m : ℕ) → MarksAt n ms xs → m ≤ length xs → length (joined (map f (take m ms))) ≡ m * n
+rows_long f n long ms xs zero h l = sym (zero-mul n)
+rows_long f n long [] [] (suc m) h l = absurd (omega arith)
+rows_long f n long [] (x ∷ xs) (suc m) h l = absurd h
+rows_long f n long (k ∷ ms) [] (suc m) h l = absurd h
+rows_long f n long (k ∷ ms) (x ∷ xs) (suc m) h l =
     let a = long k x h.0 in
-    let b = rows_long f n src long ms xs m h.1 (omega arith) in
+    let b = rows_long f n long ms xs m h.1 (omega arith) in
     let c = length-append (f k) (joined (map f (take m ms))) in
     let d = suc-mul m n in
     omega arith
 
-to_long : (n : ℕ) (src : List ℕ) (k : Mark) (x : MarkPlace) → MarkAt n src k x → length (to_row k) ≡ n
-to_long n src k x h = values_length n h.0.ts h.0.us k.to h.0.are
+to_long : (n : ℕ) (k : Mark) (x : MarkPlace) → MarkAt n k x → length (to_row k) ≡ n
+to_long n k x h = values_length n h.0.ts h.0.us k.to h.0.are
 
-from_long : (n : ℕ) (src : List ℕ) (k : Mark) (x : MarkPlace) → MarkAt n src k x → length (from_row k) ≡ n
-from_long n src k x h = values_length n h.1.ts h.1.us k.from h.1.are
+from_long : (n : ℕ) (k : Mark) (x : MarkPlace) → MarkAt n k x → length (from_row k) ≡ n
+from_long n k x h = values_length n h.1.ts h.1.us k.from h.1.are
 
 joined_push : (xss : List (List ℕ)) (ys : List ℕ) → joined (xss ++ (ys ∷ [])) ≡ joined xss ++ ys
 joined_push [] ys = append-nil ys
@@ -78,11 +78,11 @@ table_more f n m ms k before now now' l t e w =
     w ∙ (ap (λ zs. zs ++ (f k ++ drop (m * n + n) now)) front ∙ (ap (λ zs. A ++ (f k ++ zs)) rest
     ∙ (sym (append_assoc A (f k) (drop (m * n + n) before)) ∙ (ap (λ zs. zs ++ drop (m * n + n) before) (sym rows) ∙ ap (λ i. joined (map f (take (m + 1) ms)) ++ drop i before) (sym next)))))
 
-pub to_more : (n m : ℕ) (src : List ℕ) (ms : List Mark) (xs : List MarkPlace) (x : MarkPlace) (before now now' : List ℕ) (k : Nth n src ms x m) → MarksAt n src ms xs → m ≤ length xs → now ≡ joined (map to_row (take m ms)) ++ drop (m * n) before → now' ≡ take (m * n) now ++ (to_row k.mark ++ drop (m * n + n) now) → now' ≡ joined (map to_row (take (m + 1) ms)) ++ drop ((m + 1) * n) before
-to_more n m src ms xs x before now now' k h l e w = table_more to_row n m ms k.mark before now now' (rows_long to_row n src (to_long n src) ms xs m h l) k.next e w
+pub to_more : (n m : ℕ) (ms : List Mark) (xs : List MarkPlace) (x : MarkPlace) (before now now' : List ℕ) (k : Nth n ms x m) → MarksAt n ms xs → m ≤ length xs → now ≡ joined (map to_row (take m ms)) ++ drop (m * n) before → now' ≡ take (m * n) now ++ (to_row k.mark ++ drop (m * n + n) now) → now' ≡ joined (map to_row (take (m + 1) ms)) ++ drop ((m + 1) * n) before
+to_more n m ms xs x before now now' k h l e w = table_more to_row n m ms k.mark before now now' (rows_long to_row n (to_long n) ms xs m h l) k.next e w
 
-pub from_more : (n m : ℕ) (src : List ℕ) (ms : List Mark) (xs : List MarkPlace) (x : MarkPlace) (before now now' : List ℕ) (k : Nth n src ms x m) → MarksAt n src ms xs → m ≤ length xs → now ≡ joined (map from_row (take m ms)) ++ drop (m * n) before → now' ≡ take (m * n) now ++ (from_row k.mark ++ drop (m * n + n) now) → now' ≡ joined (map from_row (take (m + 1) ms)) ++ drop ((m + 1) * n) before
-from_more n m src ms xs x before now now' k h l e w = table_more from_row n m ms k.mark before now now' (rows_long from_row n src (from_long n src) ms xs m h l) k.next e w
+pub from_more : (n m : ℕ) (ms : List Mark) (xs : List MarkPlace) (x : MarkPlace) (before now now' : List ℕ) (k : Nth n ms x m) → MarksAt n ms xs → m ≤ length xs → now ≡ joined (map from_row (take m ms)) ++ drop (m * n) before → now' ≡ take (m * n) now ++ (from_row k.mark ++ drop (m * n + n) now) → now' ≡ joined (map from_row (take (m + 1) ms)) ++ drop ((m + 1) * n) before
+from_more n m ms xs x before now now' k h l e w = table_more from_row n m ms k.mark before now now' (rows_long from_row n (from_long n) ms xs m h l) k.next e w
 
 pub table_none : (f : Mark → List ℕ) (n : ℕ) (ms : List Mark) (before : List ℕ) → before ≡ joined (map f (take 0 ms)) ++ drop (0 * n) before
 table_none f n ms before = ap (λ i. drop i before) (sym (zero-mul n))

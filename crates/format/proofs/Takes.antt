@@ -4,7 +4,7 @@ use Rattle.std.specs.List.{AllByRecursion}
 use Rattle.std.proofs.lemmas.Bool.{cond_both, eqb-true, eqb-false, eq-eqb, and_from}
 use Rattle.format.specs.Plain.{Lane, Mark, beyond}
 use Rattle.format.specs.Form.{digits, Token, closed, hyphen, run}
-use Rattle.format.specs.Items.{took, same, value, values, triple, table, mark_form, plant_form, lane_form, plant_word, lane_word, Counts, to_word, from_word}
+use Rattle.format.specs.Items.{took, same, value, many, values, triple, table, mark_form, plant_form, lane_form, plant_word, lane_word, Counts, to_word, from_word}
 use Rattle.format.proofs.Numbers.{number_of}
 use Rattle.format.proofs.Sounds.{Sound}
 use Rattle.format.proofs.Lines.{triple-tokens, value_token, values-tokens, table-tokens, mark-tokens}
@@ -31,7 +31,7 @@ value_takes x ks h = cond_both (eqb x beyond) hyphen (run digits (decimal x)) (�
     (λ q. let ne = eqb-false x beyond q in ap (λ y. took y ks) (number_of x (omega arith)).reads_back)
 
 values_takes : (xs : List ℕ) (ks : List Token) → AllByRecursion (λ x. x ≤ beyond) xs → values (length xs) (values-tokens xs ks) ≡ took xs ks
-unfolding values
+unfolding many
 values_takes [] ks h = refl
 values_takes (x ∷ xs) ks h = rw (value_takes x (values-tokens xs ks) h.0, values_takes xs ks h.1)
 

@@ -4,7 +4,7 @@ use Rattle.std.specs.List.{AllByRecursion}
 use Rattle.std.proofs.lemmas.Bool.{eqb-true, ne_eqb, and_parts}
 use Rattle.format.specs.Plain.{Lane, Mark, beyond, Table}
 use Rattle.format.specs.Form.{letters, digits, Token, opened, closed, hyphen, run}
-use Rattle.format.specs.Items.{reads, Took, took, other, then, opens, closes, same, says, number, value, values, all, triple, table, mark_form, plant_form, lane_form, plant_word, lane_word, Counts, mark_word, to_word, from_word}
+use Rattle.format.specs.Items.{reads, Took, took, other, then, opens, closes, same, says, number, value, many, values, all, triple, table, mark_form, plant_form, lane_form, plant_word, lane_word, Counts, mark_word, to_word, from_word}
 use Rattle.format.proofs.Numbers.{number_only}
 use Rattle.format.proofs.Spelled.{Good}
 use Rattle.format.proofs.Sounds.{Sound}
@@ -104,7 +104,7 @@ record AreValues (n : ℕ) (ts : List Token) (xs : List ℕ) (r : List Token) : 
   fair : AllByRecursion Fair r
 
 values_took : (n : ℕ) (ts : List Token) (xs : List ℕ) (r : List Token) → AllByRecursion Fair ts → values n ts ≡ took xs r → AreValues n ts xs r
-unfolding values
+unfolding many
 values_took zero ts xs r h e =
     let p : [] ≡ xs = cc in
     let q : ts ≡ r = cc in

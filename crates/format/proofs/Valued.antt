@@ -2,49 +2,52 @@
 use Rattle.std.proofs.Common.{◌≡◌, ℕ, zero, suc, ◌+◌, ◌-◌, ◌<◌, ◌≤◌, List, [], ◌∷◌, ◌++◌, length, get_or, take, drop, set, sym, refl, ap, ◌∙◌, subst, arith}
 use Rattle.std.proofs.lemmas.List.{take_all, take_more, take_more_set, drop_more}
 use Rattle.format.specs.Form.{Token}
-use Rattle.format.specs.Items.{Took, took, other, then, value, values}
+use Rattle.format.specs.Items.{Took, took, other, then, value, many, values}
 use Rattle.format.specs.Places.{TokensAt, ValuesAt, passed}
 
--- the first of some values, and the others
-pub record First (m : ℕ) (ts us : List Token) (xs : List ℕ) : Type 0 where
-  pub x : ℕ
-  pub ys : List ℕ
+-- the first of some, and the others
+pub record First {A : Type 0} (f : List Token → Took A) (m : ℕ) (ts us : List Token) (xs : List A) : Type 0 where
+  pub x : A
+  pub ys : List A
   pub rest : List Token
-  pub is : value ts ≡ took x rest
-  pub are : values m rest ≡ took ys us
+  pub is : f ts ≡ took x rest
+  pub are : many f m rest ≡ took ys us
   pub both : xs ≡ x ∷ ys
 
-pub first_of : (m : ℕ) (ts us : List Token) (xs : List ℕ) → values (suc m) ts ≡ took xs us → First m ts us xs
-unfolding values
-first_of m ts us xs e = by (value ts) refl e
+pub first_of : {A : Type 0} (f : List Token → Took A) (m : ℕ) (ts us : List Token) (xs : List A) → many f (suc m) ts ≡ took xs us → First f m ts us xs
+unfolding many
+first_of {A = A} f m ts us xs e = by (f ts) refl e
   where
-    more : (x : ℕ) (rest : List Token) (v : Took (List ℕ)) → value ts ≡ took x rest → values m rest ≡ v → then v (λ ys r. took (x ∷ ys) r) ≡ took xs us → First m ts us xs
+    more : (x : A) (rest : List Token) (v : Took (List A)) → f ts ≡ took x rest → many f m rest ≡ v → then v (λ ys r. took (x ∷ ys) r) ≡ took xs us → First f m ts us xs
     more x rest (took ys vs) p q e =
         let same : vs ≡ us = cc in
         let both : x ∷ ys ≡ xs = cc in
         record { x = x; ys = ys; rest = rest; is = p; are = q ∙ ap (took ys) same; both = sym both }
     more x rest other p q e = absurd (let z : ◌≡◌ {A = ℕ} 0 1 = cc in omega arith)
 
-    by : (v : Took ℕ) → value ts ≡ v → then v (λ x r. then (values m r) (λ ys r. took (x ∷ ys) r)) ≡ took xs us → First m ts us xs
-    by (took x rest) p e = more x rest (values m rest) p refl e
+    by : (v : Took A) → f ts ≡ v → then v (λ x r. then (many f m r) (λ ys r. took (x ∷ ys) r)) ≡ took xs us → First f m ts us xs
+    by (took x rest) p e = more x rest (many f m rest) p refl e
     by other p e = absurd (let z : ◌≡◌ {A = ℕ} 0 1 = cc in omega arith)
 
 -- there are as many as were asked for
+pub many_length : {A : Type 0} (f : List Token → Took A) (n : ℕ) (ts us : List Token) (xs : List A) → many f n ts ≡ took xs us → length xs ≡ n
+unfolding many
+many_length f zero ts us xs e = let q : xs ≡ [] = cc in ap length q
+many_length f (suc m) ts us xs e =
+    let g = first_of f m ts us xs e in
+    ap length g.both ∙ ap suc (many_length f m g.rest us g.ys g.are)
+
 pub values_length : (n : ℕ) (ts us : List Token) (xs : List ℕ) → values n ts ≡ took xs us → length xs ≡ n
-unfolding values
-values_length zero ts us xs e = let q : xs ≡ [] = cc in ap length q
-values_length (suc m) ts us xs e =
-    let f = first_of m ts us xs e in
-    ap length f.both ∙ ap suc (values_length m f.rest us f.ys f.are)
+values_length n ts us xs e = many_length value n ts us xs e
 
 -- passing them
 
 pub pass_none : (n m : ℕ) (ts : List Token) → n ≡ suc m → value ts ≡ other → passed (values n ts) ≡ other
-unfolding values
+unfolding many
 pass_none n m ts p e = ap (λ k. passed (values k ts)) p ∙ rw e
 
 pub pass_more : (n m x : ℕ) (ts us : List Token) → n ≡ suc m → value ts ≡ took x us → passed (values n ts) ≡ passed (values m us)
-unfolding values
+unfolding many
 pass_more n m x ts us p e = ap (λ k. passed (values k ts)) p ∙ (rw e (by (values m us)))
   where
     by : (v : Took (List ℕ)) → passed (then v (λ ys r. took (x ∷ ys) r)) ≡ passed v
@@ -52,7 +55,7 @@ pass_more n m x ts us p e = ap (λ k. passed (values k ts)) p ∙ (rw e (by (val
     by other = refl
 
 pub pass_all : (n : ℕ) (ts : List Token) → n ≡ 0 → passed (values n ts) ≡ took tt ts
-unfolding values
+unfolding many
 pass_all n ts p = ap (λ k. passed (values k ts)) p
 
 -- writing them into a row
@@ -71,16 +74,16 @@ pub fill_stop : (src : List ℕ) (to i n : ℕ) (row xs : List ℕ) → Filling 
 fill_stop src to i n row xs f h no_value =
     let v = f.rest in
     let p : n - i ≡ suc (n - i - 1) = omega arith in
-    let g = first_of (n - i - 1) v.ts v.us (drop i xs) (ap (λ k. values k v.ts) (sym p) ∙ v.are) in
+    let g = first_of value (n - i - 1) v.ts v.us (drop i xs) (ap (λ k. values k v.ts) (sym p) ∙ v.are) in
     let q = no_value v.ts v.here in
     let r = g.is in
     let z : ◌≡◌ {A = ℕ} 0 1 = cc in omega arith
 
-pub fill_more : (src : List ℕ) (to e i n x : ℕ) (row xs : List ℕ) → length row ≡ n → Filling src to i n row xs → i < n → ((us : List Token) → TokensAt src to us → (vs : List Token) × (value us ≡ took x vs) × TokensAt src e vs) → Filling src e (i + 1) n (set row i x) xs
-fill_more src to e i n x row xs l f h taken =
+pub fill_more : (src : List ℕ) (to : ℕ) (src' : List ℕ) (e i n x : ℕ) (row xs : List ℕ) → length row ≡ n → Filling src to i n row xs → i < n → ((us : List Token) → TokensAt src to us → (vs : List Token) × (value us ≡ took x vs) × TokensAt src' e vs) → Filling src' e (i + 1) n (set row i x) xs
+fill_more src to src' e i n x row xs l f h taken =
     let v = f.rest in
     let p : n - i ≡ suc (n - (i + 1)) = omega arith in
-    let g = first_of (n - (i + 1)) v.ts v.us (drop i xs) (ap (λ k. values k v.ts) (sym p) ∙ v.are) in
+    let g = first_of value (n - (i + 1)) v.ts v.us (drop i xs) (ap (λ k. values k v.ts) (sym p) ∙ v.are) in
     let t = taken v.ts v.here in
     let gi = g.is in
     let ti = t.1 in
@@ -93,7 +96,7 @@ fill_more src to e i n x row xs l f h taken =
     let same-ys : g.ys ≡ drop (i + 1) xs = cc in
     let same_rest : g.rest ≡ t.0 = cc in
     record {
-      rest = record { ts = g.rest; us = v.us; here = subst (TokensAt src e) (sym same_rest) t.2; are = g.are ∙ ap (λ ys. took ys v.us) same-ys };
+      rest = record { ts = g.rest; us = v.us; here = subst (TokensAt src' e) (sym same_rest) t.2; are = g.are ∙ ap (λ ys. took ys v.us) same-ys };
       done = take_more_set row i x in_row ∙ (ap (λ zs. zs ++ (x ∷ [])) f.done ∙ (ap (λ y. take i xs ++ (y ∷ [])) same-x ∙ sym (take_more xs i 0 in-xs)));
       long = long;
     }

@@ -6,6 +6,7 @@ use Rattle.plants.specs.Told.{refusal_of as plant_refusal}
 use Rattle.format.specs.declared.fault.ReadFault.{ReadFault}
 use Rattle.format.specs.declared.fault.ReadFault.TheVariants.{NoForm, Form, Number, Short, Plant}
 use Rattle.format.specs.declared.fault.Placed.{Placed}
+use Rattle.format.specs.declared.phase.Unfit.{Unfit}
 use Rattle.plant.specs.declared.refusal.Layer.TheVariants.{Text as TextLayer, Form as FormLayer, Search as SearchLayer}
 use Rattle.plant.specs.declared.refusal.Refusal.{Refusal}
 use Rattle.format.specs.Turns.{Fault}
@@ -25,6 +26,10 @@ line_of (Table m k) lanes = later (later m lanes) 2
 
 abbrev pub read_fault : Placed → ReadFault
 read_fault p = Plant p.fault (line_of p.fault p.lanes)
+
+-- a line that is no form
+abbrev pub unfit_fault : Unfit → ReadFault
+unfit_fault u = NoForm u.line u.byte
 
 abbrev pub with_lanes : ℕ → Result (Unit {0}) PlantFault → Result (Unit {0}) Placed
 with_lanes lanes (Ok u) = Ok u

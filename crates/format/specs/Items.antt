@@ -75,6 +75,10 @@ says v (hyphen ∷ ts) = other
 says v (run letters w ∷ ts) = cond (same w v) (took tt ts) other
 says v (run digits w ∷ ts) = other
 
+-- the bracket and the word that a form begins with
+abbrev pub begins : List ℕ → List Token → Took (Unit {0})
+begins v ts = then (opens ts) λ _ ts. says v ts
+
 abbrev pub number : List Token → Took ℕ
 number [] = other
 number (opened ∷ ts) = other
@@ -92,9 +96,13 @@ value (hyphen ∷ ts) = took beyond ts
 value (run letters w ∷ ts) = other
 value (run digits w ∷ ts) = took (reads 0 w) ts
 
-unfoldable pub values : ℕ → List Token → Took (List ℕ)
-values zero ts = took [] ts
-values (suc n) ts = then (value ts) (λ x ts. then (values n ts) (λ xs ts. took (x ∷ xs) ts))
+-- so many of a kind, one after another
+unfoldable pub many : {A : Type 0} → (List Token → Took A) → ℕ → List Token → Took (List A)
+many f zero ts = took [] ts
+many f (suc n) ts = then (f ts) (λ x ts. then (many f n ts) (λ xs ts. took (x ∷ xs) ts))
+
+abbrev pub values : ℕ → List Token → Took (List ℕ)
+values n ts = many value n ts
 
 -- nothing is left
 abbrev pub all : {A : Type 0} → Took A → Option A
@@ -121,6 +129,11 @@ to_word = codes "to"
 
 abbrev pub from_word : List ℕ
 from_word = codes "from"
+
+-- (WORD A B ..), with n numbers
+unfoldable pub numbers_form : ℕ → List ℕ → List Token → Took (List ℕ)
+numbers_form n w ts =
+    then (begins w ts) λ _ ts. then (many number n ts) λ xs ts. then (closes ts) λ _ ts. took xs ts
 
 -- (WORD A B C)
 unfoldable pub triple : List ℕ → List Token → Took (ℕ × ℕ × ℕ)

@@ -1,15 +1,33 @@
 -- The tokens that stand from a place of the text on, and what code takes from them.
 use Rattle.std.specs.Prelude.{◌≡◌, ℕ, ◌+◌, true, List, [], ◌∷◌, drop, Some, None, Option}
-use Rattle.format.specs.declared.form.Taken.{Taken}
-use Rattle.format.specs.declared.form.Triple.{Triple}
+use Rattle.format.specs.declared.cursor.Cursor.{Cursor}
+use Rattle.format.specs.declared.token.Token.{Token as Written}
 use Rattle.format.specs.Form.{Token}
 use Rattle.format.specs.Lex.{item, over, lex, gap, width}
+use Rattle.format.specs.Told.{token_of}
 use Rattle.format.specs.Items.{sound_token, Took, took, other, then, values}
 
 -- these tokens, no number among them refused, and then none
 abbrev pub TokensAt : List ℕ → ℕ → List Token → Type 0
 TokensAt src at [] = lex (drop at src) ≡ over
 TokensAt src at (k ∷ ts) = (lex (drop at src) ≡ item k) × (sound_token k ≡ true) × TokensAt src (at + gap (drop at src) + width k) ts
+
+-- the token k is next, and the others stand from e on
+pub record Ahead (src : List ℕ) (e : ℕ) (ts : List Token) (k : Token) : Type 0 where
+  pub us : List Token
+  pub is : ts ≡ k ∷ us
+  pub sounds : sound_token k ≡ true
+  pub there : TokensAt src e us
+
+-- the next token was met; or none stands there
+abbrev pub Meets : Cursor → List Token → Option Written → Type 0
+Meets c ts (Some w) = Ahead c.line.text.now c.at ts (token_of w)
+Meets c ts None = ts ≡ []
+
+-- a given token was passed; or another is next
+abbrev pub Passed : Token → Cursor → List Token → Option (Unit {0}) → Type 0
+Passed k c ts (Some u) = Ahead c.line.text.now c.at ts k
+Passed k c ts None = (us : List Token) → ts ≡ k ∷ us → ⊥
 
 -- the code took what the definition takes, and stands where the other tokens are; or neither took anything
 abbrev pub Agrees : {A X : Type 0} → (A → X → Type 0) → (X → ℕ) → List ℕ → Took A → Option X → Type 0
@@ -18,17 +36,15 @@ Agrees R end src (took a ts) None = ⊥
 Agrees R end src other (Some x) = ⊥
 Agrees R end src other None = Unit {0}
 
--- a bracket or a word, of which the code keeps only where it ends
-abbrev pub TookPast : List ℕ → Took (Unit {0}) → Option ℕ → Type 0
-TookPast src t r = Agrees (λ (_ : Unit {0}) (_ : ℕ). Unit {0}) (λ e. e) src t r
+-- so at the place where a cursor is left
+abbrev pub TookTo : {A X : Type 0} → (A → X → Type 0) → Cursor → Took A → Option X → Type 0
+TookTo R c t r = Agrees R (λ _. c.at) c.line.text.now t r
 
-abbrev pub TookNumber : List ℕ → Took ℕ → Option Taken → Type 0
-TookNumber src t r = Agrees (λ n (x : Taken). n ≡ x.value) (λ (x : Taken). x.end) src t r
+abbrev pub TookPast : Cursor → Took (Unit {0}) → Option (Unit {0}) → Type 0
+TookPast c t r = TookTo (λ _ _. Unit {0}) c t r
 
--- three numbers, if the code took any
-abbrev pub numbers_of : Option Triple → Option (ℕ × ℕ × ℕ)
-numbers_of None = None
-numbers_of (Some x) = Some (x.first, x.second, x.third)
+abbrev pub TookNumber : Cursor → Took ℕ → Option ℕ → Type 0
+TookNumber c t r = TookTo (λ n x. n ≡ x) c t r
 
 -- what is taken matters no more
 abbrev pub passed : {A : Type 0} → Took A → Took (Unit {0})

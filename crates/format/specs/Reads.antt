@@ -1,40 +1,48 @@
 -- What the code reads of each kind of line.
-use Rattle.std.specs.Prelude.{◌≡◌, ℕ, ◌≤◌, List, [], ◌∷◌, ◌++◌, map, length, take, drop, Some, None, Ok, Err, Option, Result}
+use Rattle.std.specs.Prelude.{◌≡◌, ℕ, ◌≤◌, List, [], ◌∷◌, ◌++◌, map, length, take, drop, Some, None, Ok, Err, Option, Result, slice_index}
 use Rattle.format.specs.declared.fault.ReadFault.{ReadFault}
 use Rattle.format.specs.declared.lanes.NumbersLine.{NumbersLine}
 use Rattle.format.specs.declared.marks.Mark.{Mark as MarkPlace}
 use Rattle.format.specs.declared.marks.MarkLine.{MarkLine}
-use Rattle.format.specs.declared.marks.Table.{Table}
+use Rattle.format.specs.declared.cursor.Cursor.{Cursor}
 use Rattle.format.specs.declared.counts.Counts.{Counts}
 use Rattle.format.specs.declared.plant_lines.PlantLines.{PlantLines}
 use Rattle.format.specs.Plain.{Lane, Mark, Plain}
 use Rattle.format.specs.Items.{Took}
 use Rattle.format.specs.Faults.{told}
 use Rattle.format.specs.Turns.{Got, got, lost, lines}
-use Rattle.format.specs.Places.{Agrees, ValuesAt}
+use Rattle.format.specs.Places.{TookTo, ValuesAt}
+
+-- the numbers of a list of three
+abbrev pub triple_of : List ℕ → ℕ × ℕ × ℕ
+triple_of xs = (slice_index xs 0, slice_index xs 1, slice_index xs 2)
 
 -- a line of three numbers
 abbrev pub NumbersRead : List ℕ → Got (ℕ × ℕ × ℕ) → Result NumbersLine ReadFault → Type 0
-NumbersRead src g (Ok l) = g ≡ got (l.numbers.first, l.numbers.second, l.numbers.third) (drop l.end src)
+NumbersRead src g (Ok l) = g ≡ got (triple_of l.numbers) (drop l.end src)
 NumbersRead src g (Err f) = g ≡ lost (told f)
 
+-- the n values of a table stand from a place on
+abbrev pub ValuesFrom : ℕ → List ℕ → Cursor → Type 0
+ValuesFrom n xs c = ValuesAt c.line.text.now c.at xs n
+
 -- a table with n values, of which the code keeps where they stand
-abbrev pub TookTable : ℕ → List ℕ → Took (List ℕ) → Option Table → Type 0
-TookTable n src t r = Agrees (λ xs (x : Table). ValuesAt src x.values xs n) (λ (x : Table). x.end) src t r
+abbrev pub TookTable : ℕ → Cursor → Took (List ℕ) → Option Cursor → Type 0
+TookTable n c t r = TookTo (ValuesFrom n) c t r
 
 -- where the two tables of a landmark stand
-abbrev pub MarkAt : ℕ → List ℕ → Mark → MarkPlace → Type 0
-MarkAt n src m x = ValuesAt src x.to m.to n × ValuesAt src x.from m.from n
+abbrev pub MarkAt : ℕ → Mark → MarkPlace → Type 0
+MarkAt n m x = ValuesFrom n m.to x.to × ValuesFrom n m.from x.from
 
-abbrev pub MarkTaken : ℕ → List ℕ → Option Mark → Option MarkPlace → Type 0
-MarkTaken n src None None = Unit {0}
-MarkTaken n src None (Some x) = ⊥
-MarkTaken n src (Some m) None = ⊥
-MarkTaken n src (Some m) (Some x) = MarkAt n src m x
+abbrev pub MarkTaken : ℕ → Option Mark → Option MarkPlace → Type 0
+MarkTaken n None None = Unit {0}
+MarkTaken n None (Some x) = ⊥
+MarkTaken n (Some m) None = ⊥
+MarkTaken n (Some m) (Some x) = MarkAt n m x
 
 -- a landmark's line
 abbrev pub MarkRead : ℕ → List ℕ → Got Mark → Result MarkLine ReadFault → Type 0
-MarkRead n src g (Ok l) = (m : Mark) × (g ≡ got m (drop l.end src)) × MarkAt n src m l.mark
+MarkRead n src g (Ok l) = (m : Mark) × (g ≡ got m (drop l.end src)) × MarkAt n m l.mark
 MarkRead n src g (Err f) = g ≡ lost (told f)
 
 -- a list that has room for all: it begins with them, and goes on as before
@@ -48,15 +56,15 @@ pub record LanesKept (ls : List Lane) (tails tails' heads heads' costs costs' : 
   pub costs_kept : Begins (map (λ (l : Lane). l.cost) ls) costs costs'
 
 -- where the tables of each landmark stand
-abbrev pub MarksAt : ℕ → List ℕ → List Mark → List MarkPlace → Type 0
-MarksAt n src [] [] = Unit {0}
-MarksAt n src [] (x ∷ xs) = ⊥
-MarksAt n src (m ∷ ms) [] = ⊥
-MarksAt n src (m ∷ ms) (x ∷ xs) = MarkAt n src m x × MarksAt n src ms xs
+abbrev pub MarksAt : ℕ → List Mark → List MarkPlace → Type 0
+MarksAt n [] [] = Unit {0}
+MarksAt n [] (x ∷ xs) = ⊥
+MarksAt n (m ∷ ms) [] = ⊥
+MarksAt n (m ∷ ms) (x ∷ xs) = MarkAt n m x × MarksAt n ms xs
 
 -- the landmarks that were read, in a list that has room for all
-abbrev pub MarksKept : ℕ → List ℕ → List Mark → List MarkPlace → Type 0
-MarksKept n src ms xs = length ms ≤ length xs → MarksAt n src ms (take (length ms) xs)
+abbrev pub MarksKept : ℕ → List Mark → List MarkPlace → Type 0
+MarksKept n ms xs = length ms ≤ length xs → MarksAt n ms (take (length ms) xs)
 
 -- so many lines of a kind, and what is kept of them
 abbrev pub LinesRead : {A : Type 0} → List ℕ → ℕ → (List A → Type 0) → Got (List A) → Result ℕ ReadFault → Type 0
@@ -72,5 +80,5 @@ pub record Sized (p : Plain) (c : Counts) : Type 0 where
 -- all lines of a plant file, the lists that lanes are kept in, before and after, and the places of the landmarks
 abbrev pub PlantRead : List ℕ → List ℕ → List ℕ → List ℕ → List ℕ → List ℕ → List ℕ → List MarkPlace → Result PlantLines ReadFault → Type 0
 PlantRead src tails tails' heads heads' costs costs' marks (Ok l) =
-    (p : Plain) × (lines src ≡ got p (drop l.end src)) × Sized p l.counts × LanesKept p.lanes tails tails' heads heads' costs costs' × MarksKept p.nodes src p.marks marks
+    (p : Plain) × (lines src ≡ got p (drop l.end src)) × Sized p l.counts × LanesKept p.lanes tails tails' heads heads' costs costs' × MarksKept p.nodes p.marks marks
 PlantRead src tails tails' heads heads' costs costs' marks (Err f) = lines src ≡ lost (told f)

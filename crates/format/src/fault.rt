@@ -1,7 +1,8 @@
 // Why a text is not read.
 ghost use Rattle.std.specs.Prelude.{◌≡◌};
-ghost use Rattle.format.specs.Faults.{line_of, read_fault, with_lanes, read_refusal, added_line};
+ghost use Rattle.format.specs.Faults.{line_of, read_fault, unfit_fault, with_lanes, read_refusal, added_line};
 
+use crate::phase::Unfit;
 use plant::refusal::{Layer, Refusal};
 use plants::fault::PlantFault;
 
@@ -34,6 +35,17 @@ impl From<Placed> for ReadFault {
         ReadFault::Plant {
             fault: placed.fault,
             line: line_of(placed.fault, placed.lanes),
+        }
+    }
+}
+
+impl From<Unfit> for ReadFault {
+    ghost from_gives = { λ u r. r ≡ unfit_fault u };
+
+    fn from(unfit: Unfit) -> ReadFault {
+        ReadFault::NoForm {
+            line: unfit.line,
+            byte: unfit.byte,
         }
     }
 }

@@ -5,14 +5,14 @@ ghost use Rattle.format.specs.Turns.{form, forms};
 ghost use Rattle.format.specs.Reads.{NumbersRead, LinesRead, LanesKept};
 
 use crate::fault::ReadFault;
-use crate::form::{Triple, take_triple};
+use crate::form::take_numbers;
 use crate::line::checked;
 use crate::token::Line;
 
 // A line of three numbers, and where the next line begins.
 #[derive(Clone, Copy)]
 pub struct NumbersLine {
-    pub numbers: Triple,
+    pub numbers: [u32; 3],
     pub end: usize,
 }
 
@@ -25,18 +25,16 @@ pub struct Lanes<'a> {
 }
 
 // A whole line (WORD A B C).
-pub fn numbers_line(src: &[u8], line: Line, text: &[u8]) -> Result<NumbersLine, ReadFault>
-    ensures { NumbersRead src.now (form (triple text.now) line.number (drop line.from src.now)) result }
+pub fn numbers_line(line: Line, word: &[u8]) -> Result<NumbersLine, ReadFault>
+    ensures { NumbersRead line.entry.text.now (form (triple word.now) line.entry.number (drop line.entry.from line.entry.text.now)) result }
 {
-    let end = checked(src, line)?;
-    match take_triple(src, line, text) {
-        None => Err(ReadFault::Form { line: line.number }),
-        Some(numbers) => Ok(NumbersLine { numbers, end }),
-    }
+    let end = checked(line)?;
+    let numbers = take_numbers(line, word).ok_or(ReadFault::Form { line: line.number })?;
+    Ok(NumbersLine { numbers, end })
 }
 
 // Writes a value if the list has room for it.
-fn keep(list: &mut [u32], i: usize, value: u32)
+pub fn keep<T: Copy>(list: &mut [T], i: usize, value: T)
     ensures { list.new ≡ slice_set list.old i value }
 {
     if i < list.len() {
@@ -46,25 +44,27 @@ fn keep(list: &mut [u32], i: usize, value: u32)
 
 // Reads so many lane lines from line 2 on, and keeps the lanes that the lists have room for; answers where the next line begins.
 pub fn read_lanes(
-    src: &[u8],
+    text: &[u8],
     from: usize,
     count: u32,
     tails: &mut [u32],
     heads: &mut [u32],
     costs: &mut [u32],
 ) -> Result<usize, ReadFault>
-    ensures { LinesRead src.now count (λ ls. LanesKept ls tails.old tails.new heads.old heads.new costs.old costs.new) (forms lane_form count 2 (drop from src.now)) result }
+    ensures { LinesRead text.now count (λ ls. LanesKept ls tails.old tails.new heads.old heads.new costs.old costs.new) (forms lane_form count 2 (drop from text.now)) result }
 {
     let mut at = from;
-    for k in 0..count {
+    for k in 0..count as usize {
         let line = Line {
-            number: 2 + k as usize,
+            text,
+            number: 2 + k,
             from: at,
         };
-        let lane = numbers_line(src, line, b"lane")?;
-        keep(tails, k as usize, lane.numbers.first);
-        keep(heads, k as usize, lane.numbers.second);
-        keep(costs, k as usize, lane.numbers.third);
+        let lane = numbers_line(line, b"lane")?;
+        let [tail, head, cost] = lane.numbers;
+        keep(tails, k, tail);
+        keep(heads, k, head);
+        keep(costs, k, cost);
         at = lane.end;
     }
     Ok(at)

@@ -5,13 +5,13 @@ ghost use Rattle.format.specs.Stands.{FormatStands};
 
 pub mod command;
 pub mod counts;
+mod cursor;
 pub mod fault;
 mod form;
 mod lanes;
 mod line;
 pub mod lists;
 mod marks;
-mod next;
 mod number;
 mod phase;
 pub mod plant_file;
@@ -19,8 +19,6 @@ mod plant_lines;
 pub mod token;
 
 // A plant file is accepted exactly when the writer writes it.
-pub fn format_stands() -> u8
+pub fn format_stands()
     ensures { FormatStands }
-{
-    0
-}
+{}

@@ -6,19 +6,15 @@ ghost use Rattle.format.specs.Items.{numeral};
 pub fn number(text: &[u8]) -> Option<u32>
     ensures { result ≡ numeral text.now }
 {
-    if text.len() > 1 {
-        if text[0] == b'0' {
-            return None;
-        }
+    if text.len() > 1 && text[0] == b'0' {
+        return None;
     }
     let mut n: u64 = 0;
-    let mut i = 0;
-    while i < text.len() {
-        n = 10 * n + text[i].saturating_sub(48) as u64;
+    for digit in text {
+        n = 10 * n + digit.saturating_sub(b'0') as u64;
         if n > 4294967294 {
             return None;
         }
-        i += 1;
     }
     Some(n as u32)
 }

@@ -1,133 +1,104 @@
 // A line byte by byte: whether it is one bracket form, and where it ends.
-ghost use Rattle.std.specs.Prelude.{◌≡◌, drop};
+ghost use Rattle.std.specs.Prelude.{◌≡◌, drop, IfErr};
 ghost use Rattle.format.specs.Form.{letters, digits, belongs};
 ghost use Rattle.format.specs.Walk.{phase_leave, phase_enter, phase_turn, line_walk, walked};
 
+use crate::cursor::behind;
+use crate::token::Line;
+
+// Inside the line's form, or inside a form nested in it.
+#[derive(Clone, Copy, PartialEq, Eq, Debug)]
+pub enum Depth {
+    Outer,
+    Nested,
+}
+
 // Where in a line the reader stands.
-#[derive(Clone, Copy)]
+#[derive(Clone, Copy, PartialEq, Eq, Debug)]
 pub enum Phase {
     Begin,
-    Need,
-    Past,
-    Word,
-    Digits,
+    Need(Depth),
+    Past(Depth),
+    Word(Depth),
+    Digits(Depth),
     Ended,
+    Behind,
 }
 
-// What the next byte does.
-#[derive(Clone, Copy)]
-pub enum Move {
-    Refuse,
-    Finish,
-    Go(Phase, bool),
-}
-
-fn leave(nested: bool, c: u8) -> Move
-    ensures { result ≡ phase_leave nested c }
-{
-    if c == b' ' {
-        Move::Go(Phase::Need, nested)
-    } else if c == b')' {
-        if nested {
-            Move::Go(Phase::Past, false)
-        } else {
-            Move::Go(Phase::Ended, false)
-        }
-    } else {
-        Move::Refuse
-    }
+// A line, and its first byte, from 1, that fits nothing.
+#[derive(Clone, Copy, PartialEq, Eq, Debug)]
+pub struct Unfit {
+    pub line: usize,
+    pub byte: usize,
 }
 
 pub fn is_letter(c: u8) -> bool
     ensures { result ≡ belongs letters c }
 {
-    c >= b'a' && c <= b'z'
+    c.is_ascii_lowercase()
 }
 
 pub fn is_digit(c: u8) -> bool
     ensures { result ≡ belongs digits c }
 {
-    c >= b'0' && c <= b'9'
+    c.is_ascii_digit()
 }
 
-fn enter(nested: bool, c: u8) -> Move
-    ensures { result ≡ phase_enter nested c }
+fn leave(depth: Depth, c: u8) -> Option<Phase>
+    ensures { result ≡ phase_leave depth c }
 {
-    if is_letter(c) {
-        Move::Go(Phase::Word, nested)
-    } else if is_digit(c) {
-        Move::Go(Phase::Digits, nested)
-    } else if c == b'-' {
-        Move::Go(Phase::Past, nested)
-    } else if c == b'(' {
-        if nested {
-            Move::Refuse
-        } else {
-            Move::Go(Phase::Need, true)
-        }
-    } else {
-        Move::Refuse
+    match (c, depth) {
+        (b' ', _) => Some(Phase::Need(depth)),
+        (b')', Depth::Nested) => Some(Phase::Past(Depth::Outer)),
+        (b')', Depth::Outer) => Some(Phase::Ended),
+        _ => None,
     }
 }
 
-fn turn(phase: Phase, nested: bool, c: u8) -> Move
-    ensures { result ≡ phase_turn phase nested c }
+fn enter(depth: Depth, c: u8) -> Option<Phase>
+    ensures { result ≡ phase_enter depth c }
+{
+    match (c, depth) {
+        (c, _) if is_letter(c) => Some(Phase::Word(depth)),
+        (c, _) if is_digit(c) => Some(Phase::Digits(depth)),
+        (b'-', _) => Some(Phase::Past(depth)),
+        (b'(', Depth::Outer) => Some(Phase::Need(Depth::Nested)),
+        _ => None,
+    }
+}
+
+fn turn(phase: Phase, c: u8) -> Option<Phase>
+    ensures { result ≡ phase_turn phase c }
 {
     match phase {
-        Phase::Begin => {
-            if c == b'(' {
-                Move::Go(Phase::Need, false)
-            } else {
-                Move::Refuse
-            }
-        }
-        Phase::Need => enter(nested, c),
-        Phase::Past => leave(nested, c),
-        Phase::Word => {
-            if is_letter(c) {
-                Move::Go(Phase::Word, nested)
-            } else {
-                leave(nested, c)
-            }
-        }
-        Phase::Digits => {
-            if is_digit(c) {
-                Move::Go(Phase::Digits, nested)
-            } else {
-                leave(nested, c)
-            }
-        }
-        Phase::Ended => {
-            if c == b'\n' {
-                Move::Finish
-            } else {
-                Move::Refuse
-            }
-        }
+        Phase::Begin if c == b'(' => Some(Phase::Need(Depth::Outer)),
+        Phase::Need(depth) => enter(depth, c),
+        Phase::Word(_) if is_letter(c) => Some(phase),
+        Phase::Digits(_) if is_digit(c) => Some(phase),
+        Phase::Past(depth) | Phase::Word(depth) | Phase::Digits(depth) => leave(depth, c),
+        Phase::Ended if c == b'\n' => Some(Phase::Behind),
+        _ => None,
     }
 }
 
-// Where the line from the byte `from` on ends, or its first byte, from 1, that fits nothing.
-pub fn line_end(src: &[u8], from: usize) -> Result<usize, usize>
-    ensures { line_walk (drop from src.now) ≡ walked src.now result }
+// Where the line ends, or its first byte that fits nothing.
+pub fn line_end(line: Line) -> Result<usize, Unfit>
+    ensures told { IfErr result (λ u. u.line ≡ line.entry.number) }
+    ensures walked { line_walk (drop line.entry.from line.entry.text.now) ≡ walked line.entry.text.now result }
 {
-    let mut i = from;
+    let rest = behind(line.text, line.from);
     let mut phase = Phase::Begin;
-    let mut nested = false;
-    while i < src.len() {
-        match turn(phase, nested, src[i]) {
-            Move::Refuse => {
-                return Err(i - from + 1);
-            }
-            Move::Finish => {
-                return Ok(i + 1);
-            }
-            Move::Go(p, n) => {
-                phase = p;
-                nested = n;
-                i += 1;
-            }
+    for (i, &c) in rest.iter().enumerate() {
+        phase = turn(phase, c).ok_or(Unfit {
+            line: line.number,
+            byte: i + 1,
+        })?;
+        if phase == Phase::Behind {
+            return Ok(line.from + i + 1);
         }
     }
-    Err(i - from + 1)
+    Err(Unfit {
+        line: line.number,
+        byte: rest.len() + 1,
+    })
 }

@@ -57,15 +57,9 @@ fn fill_index(
 }
 
 // Tests the lanes and tables of a plant, and writes it into the lists if no test fails.
-fn settle(
-    text: &[u8],
-    nodes: u32,
-    lanes: Lanes,
-    marks: &[Mark],
-    lists: ListsMut,
-) -> Result<(), PlantFault>
+fn settle(nodes: u32, lanes: Lanes, marks: &[Mark], lists: ListsMut) -> Result<(), PlantFault>
     requires { (nodes ≤ 4096) × (Spacious nodes (length marks.now) lanes.tails.now lanes.heads.now lanes.costs.now (space_of (held lists))) }
-    ensures { MatchResult result (λ _. Written nodes lanes.entry.tails.now lanes.entry.heads.now lanes.entry.costs.now (held lists.entry) (after lists.exit) × ((ms : List Landmark) → MarksAt nodes text.now ms marks.now → TablesWritten nodes ms (held lists.entry) (after lists.exit))) (λ _. after lists.exit ≡ held lists.entry) }
+    ensures { MatchResult result (λ _. Written nodes lanes.entry.tails.now lanes.entry.heads.now lanes.entry.costs.now (held lists.entry) (after lists.exit) × ((ms : List Landmark) → MarksAt nodes ms marks.now → TablesWritten nodes ms (held lists.entry) (after lists.exit))) (λ _. after lists.exit ≡ held lists.entry) }
 {
     let ListsMut {
         tails,
@@ -79,12 +73,12 @@ fn settle(
     } = lists;
     check_ends(nodes, lanes.tails, lanes.heads)?;
     check_costs(lanes.costs)?;
-    test_marks(text, marks, nodes as usize, lanes)?;
+    test_marks(marks, nodes as usize, lanes)?;
     fill_index(nodes, lanes, first_out, first_in, by_head)?;
     copy(lanes.tails, tails);
     copy(lanes.heads, heads);
     copy(lanes.costs, costs);
-    fill_tables(text, marks, nodes as usize, to, from);
+    fill_tables(marks, nodes as usize, to, from);
     Ok(())
 }
 
@@ -106,10 +100,14 @@ pub fn read_plant(text: &[u8], room: Counts, lists: ListsMut) -> Result<PlantFil
     let mut read_tails = [0u32; 16384];
     let mut read_heads = [0u32; 16384];
     let mut read_costs = [0u32; 16384];
-    let mut marks = [Mark {
-        line: Line { number: 1, from: 0 },
-        to: 0,
+    let start = Line {
+        text,
+        number: 1,
         from: 0,
+    };
+    let mut marks = [Mark {
+        to: start.start(),
+        from: start.start(),
     }; 16];
     let read = read_lines(
         text,
@@ -139,7 +137,7 @@ pub fn read_plant(text: &[u8], room: Counts, lists: ListsMut) -> Result<PlantFil
         from,
     };
     with_lanes(
-        settle(text, counts.nodes, lanes, &marks[0..landmarks], into),
+        settle(counts.nodes, lanes, &marks[0..landmarks], into),
         count,
     )?;
     Ok(PlantFile {

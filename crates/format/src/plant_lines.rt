@@ -15,23 +15,28 @@ pub struct PlantLines {
 }
 
 // Reads the lines in turn, and keeps the lanes and landmarks that the lists have room for.
-pub fn read_lines(
-    text: &[u8],
+pub fn read_lines<'a>(
+    text: &'a [u8],
     tails: &mut [u32],
     heads: &mut [u32],
     costs: &mut [u32],
-    marks: &mut [Mark],
+    marks: &mut [Mark<'a>],
 ) -> Result<PlantLines, ReadFault>
     ensures { PlantRead text.now tails.old tails.new heads.old heads.new costs.old costs.new marks.new result }
 {
-    let start = Line { number: 1, from: 0 };
-    let first = numbers_line(text, start, b"plant")?;
-    let counts = Counts {
-        nodes: first.numbers.first,
-        lanes: first.numbers.second,
-        landmarks: first.numbers.third,
+    let start = Line {
+        text,
+        number: 1,
+        from: 0,
     };
-    let lanes_end = read_lanes(text, first.end, counts.lanes, tails, heads, costs)?;
+    let first = numbers_line(start, b"plant")?;
+    let [nodes, lanes, landmarks] = first.numbers;
+    let counts = Counts {
+        nodes,
+        lanes,
+        landmarks,
+    };
+    let lanes_end = read_lanes(text, first.end, lanes, tails, heads, costs)?;
     let end = read_marks(text, lanes_end, counts, marks)?;
     Ok(PlantLines { counts, end })
 }

@@ -1,8 +1,24 @@
--- What stands in a list, in its front and in its reverse, and the list without a number.
-use Rattle.std.proofs.Common.{◌≡◌, ℕ, zero, suc, ◌+◌, ◌<◌, Bool, true, false, cond, eqb, List, [], ◌∷◌, ◌++◌, reverse, length, get_or, take, sym, refl, ap, ◌∙◌, arith}
-use Rattle.std.proofs.lemmas.List.{take_more, reverse-append}
-use Rattle.std.proofs.lemmas.Bool.{cond-true, cond-false, eq-eqb, ne_eqb}
+-- Whether a number stands in a list, and the list without it, in the words of the library.
+use Rattle.std.proofs.Common.{◌≡◌, ℕ, Bool, true, false, cond, not, eqb, ◌||◌, List, [], ◌∷◌, ◌++◌, reverse, filter, sym, refl, ap, ◌∙◌}
+use Rattle.std.proofs.lemmas.List.{reverse-append}
+use Rattle.std.specs.List.{list_any}
 use Rattle.plant.specs.Closed.{among, without}
+
+pub among_any : (xs : List ℕ) (k : ℕ) → among xs k ≡ list_any (λ x. eqb x k) xs
+among_any [] k = refl
+among_any (x ∷ xs) k = step (eqb x k) (among_any xs k)
+  where
+    step : (t : Bool) → among xs k ≡ list_any (λ y. eqb y k) xs → cond t true (among xs k) ≡ (t || list_any (λ y. eqb y k) xs)
+    step true e = refl
+    step false e = e
+
+pub without_filter : (k : ℕ) (xs : List ℕ) → without k xs ≡ filter (λ x. not (eqb x k)) xs
+without_filter k [] = refl
+without_filter k (x ∷ xs) = step (eqb x k) (without_filter k xs)
+  where
+    step : (t : Bool) → without k xs ≡ filter (λ y. not (eqb y k)) xs → cond t (without k xs) (x ∷ without k xs) ≡ cond (not t) (x ∷ filter (λ y. not (eqb y k)) xs) (filter (λ y. not (eqb y k)) xs)
+    step true e = e
+    step false e = ap (λ l. x ∷ l) e
 
 pub among-append : (xs ys : List ℕ) (k : ℕ) → among (xs ++ ys) k ≡ cond (among xs k) true (among ys k)
 among-append [] ys k = refl
@@ -26,21 +42,6 @@ among-reverse [] k = refl
 among-reverse (x ∷ xs) k =
     ap (λ l. among l k) (reverse_cons x xs) ∙ among-append (reverse xs) (x ∷ []) k
     ∙ either_way (among (reverse xs) k) (eqb x k) ∙ ap (λ t. cond (eqb x k) true t) (among-reverse xs k)
-
-pub among_more : (xs : List ℕ) (i k : ℕ) → i < length xs → among (take i xs) k ≡ false → (get_or xs i 0 ≡ k → ⊥) → among (take (i + 1) xs) k ≡ false
-among_more xs i k lt a ne =
-    ap (λ l. among l k) (take_more xs i 0 lt) ∙ among-append (take i xs) (get_or xs i 0 ∷ []) k
-    ∙ cond-false (among (take i xs) k) true _ a ∙ cond-false (eqb (get_or xs i 0) k) true false (ne_eqb (get_or xs i 0) k ne)
-
-pub among_at : (xs : List ℕ) (n i k : ℕ) → i < n → i < length xs → get_or xs i 0 ≡ k → among (take n xs) k ≡ true
-among_at [] n i k a b e = absurd (omega arith)
-among_at (x ∷ xs) zero i k a b e = absurd (omega arith)
-among_at (x ∷ xs) (suc n) zero k a b e = cond-true (eqb x k) true _ (eq-eqb x k e)
-among_at (x ∷ xs) (suc n) (suc i) k a b e = either (eqb x k) (among_at xs n i k (omega arith) (omega arith) e)
-  where
-    either : (t : Bool) → among (take n xs) k ≡ true → cond t true (among (take n xs) k) ≡ true
-    either true h = refl
-    either false h = h
 
 pub without-append : (k : ℕ) (xs ys : List ℕ) → without k (xs ++ ys) ≡ without k xs ++ without k ys
 without-append k [] ys = refl

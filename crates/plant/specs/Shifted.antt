@@ -1,5 +1,5 @@
 -- What a shift has closed, and which fault a close or a reopen has.
-use Rattle.std.specs.Prelude.{ℕ, Bool, cond, List, reverse, length, take, Some, None, Option, nat_lt}
+use Rattle.std.specs.Prelude.{ℕ, Bool, cond, List, reverse, length, Some, None, Option, nat_lt}
 use Rattle.plant.specs.declared.layers.shift.Shift.{Shift}
 use Rattle.plant.specs.declared.layers.shift.ShiftFault.{ShiftFault}
 use Rattle.plant.specs.declared.layers.shift.ShiftFault.TheVariants.{NoLane, Closed, Full, Open}
@@ -9,7 +9,7 @@ use Rattle.plant.specs.Closed.{among}
 
 -- the numbers of the closed lanes, the latest first
 abbrev pub closed_list : {P : Type 0} → Shift P → List ℕ
-closed_list s = reverse (take s.count s.closed)
+closed_list s = reverse s.closed.items
 
 abbrev pub is_shut : {P : Type 0} → Shift P → ℕ → Bool
 is_shut s n = among (closed_list s) n

@@ -1,7 +1,8 @@
 -- The lanes at a node, as the index lists have them.
-use Rattle.std.proofs.Common.{◌≡◌, ℕ, suc, ◌+◌, ◌-◌, ◌<◌, ◌≤◌, List, length, get_or, Some, None, sym, ap, ◌∙◌, arith}
+use Rattle.std.proofs.Common.{◌≡◌, ℕ, suc, ◌+◌, ◌-◌, ◌<◌, ◌≤◌, List, length, get_or, Some, None, Option, IfSome, IfNone, sym, ap, ◌∙◌, ⊎_elim, arith}
 use Rattle.std.specs.List.{slice_get}
 use Rattle.std.proofs.lemmas.Option.{slice_get-get_or, slice_get_past}
+use Rattle.std.proofs.lemmas.Bool.{cases_lt}
 use Rattle.plant.specs.Floor.{at_from}
 use Rattle.plants.specs.Columns.{Columns}
 use Rattle.plants.specs.Index.{below, places, firsts}
@@ -85,3 +86,21 @@ module _ (nodes landmarks : ℕ) (c : Columns) (s : Lawful nodes landmarks c) wh
   into_outside v j past =
       let heads_in : (k : ℕ) → k < length c.heads → get_or c.heads k 0 < nodes = λ k lt. s.heads_in k (omega (arith, s.heads_size)) in
       ap (λ l. slice_get l j) (into_is v ∙ no_places 0 v nodes c.heads heads_in past)
+
+  -- the place that is found, or that none is, by the first-out list
+  out_some : (v j place : ℕ) → v + 1 < length c.first_out → place ≡ get_or c.first_out v 0 + j → place < get_or c.first_out (v + 1) 0 → slice_get (out-list v) j ≡ Some place
+  out_some v j place inside is below = out_at v j (omega (arith, s.outs_size)) (omega arith) ∙ ap Some (sym is)
+
+  out_none : (v j : ℕ) → (v + 1 < length c.first_out → get_or c.first_out (v + 1) 0 ≤ get_or c.first_out v 0 + j) → slice_get (out-list v) j ≡ None
+  out_none v j past = ⊎_elim (λ lt. out_past v j lt (omega (arith, past (omega (arith, s.outs_size))))) (out_outside v j) (cases_lt v nodes)
+
+  pub out_nth : (v j : ℕ) (r : Option ℕ) → IfSome r (λ place. (v + 1 < length c.first_out) × (place ≡ get_or c.first_out v 0 + j) × (place < get_or c.first_out (v + 1) 0)) → IfNone r (v + 1 < length c.first_out → get_or c.first_out (v + 1) 0 ≤ get_or c.first_out v 0 + j) → r ≡ slice_get (out-list v) j
+  out_nth v j None some none = sym (out_none v j none)
+  out_nth v j (Some place) some none = sym (out_some v j place some.0 some.1 some.2)
+
+  -- the same for the first-in list
+  pub into_some : (v j place : ℕ) → v + 1 < length c.first_in → place ≡ get_or c.first_in v 0 + j → place < get_or c.first_in (v + 1) 0 → slice_get (into-list v) j ≡ Some (get_or c.by_head place 0)
+  into_some v j place inside is below = into_at v j (omega (arith, s.ins_size)) (omega arith) ∙ ap (λ (p : ℕ). Some (get_or c.by_head p 0)) (sym is)
+
+  pub into_none : (v j : ℕ) → (v + 1 < length c.first_in → get_or c.first_in (v + 1) 0 ≤ get_or c.first_in v 0 + j) → slice_get (into-list v) j ≡ None
+  into_none v j past = ⊎_elim (λ lt. into_past v j lt (omega (arith, past (omega (arith, s.ins_size))))) (into_outside v j) (cases_lt v nodes)

@@ -1,42 +1,61 @@
 -- A walk over the landmarks, one turn at a time.
-use Rattle.std.proofs.Common.{◌≡◌, ℕ, suc, ◌+◌, ◌-◌, ◌*◌, ◌<◌, ◌≤◌, List, take, drop, Some, None, Option, sym, ap, ◌∙◌, mul-le-mul_right, add-mul, one-mul, arith}
+use Rattle.std.proofs.Common.{◌≡◌, ℕ, suc, ◌+◌, ◌-◌, ◌*◌, ◌<◌, ◌≤◌, List, ◌++◌, length, take, drop, Some, None, Option, sym, ap, ◌∙◌, ⊎_elim, mul-le-mul_right, add-mul, one-mul, arith, length-append, length-drop}
+use Rattle.std.proofs.Math.Seq.{take-append_seam, drop-append_seam, drop-drop}
+use Rattle.std.proofs.lemmas.Bool.{cases_lt}
 use Rattle.plants.specs.declared.fault.PlantFault.{PlantFault}
 use Rattle.plants.specs.declared.fault.PlantFault.TheVariants.{Table}
 use Rattle.plants.specs.Columns.{Columns, lane_count, row}
 use Rattle.plants.specs.Faults.{first_failing, or_else, table_fits, table_fault}
 use Rattle.plants.proofs.Stages.{walk_named, walk_passes}
 
--- the part of a table that belongs to a landmark ends within it
-pub row_ends : (n m all : ℕ) → m < all → m * n + n ≤ all * n
-row_ends n m all lt =
-    let le : m + 1 ≤ all = omega arith in
-    omega (arith, add-mul m 1 n, one-mul n, mul-le-mul_right n le)
+-- a table of all landmarks, of which the first m are passed
+module _ (n all m : ℕ) (table rest : List ℕ) (some : 0 < n) (size : length table ≡ all * n) (is : rest ≡ drop (m * n) table) where
+  rest_size : length rest ≡ all * n - m * n
+  rest_size = omega (arith, ap length is, length-drop (m * n) table, size)
 
-pub row_part : (n m : ℕ) (table : List ℕ) → take (m * n + n - m * n) (drop (m * n) table) ≡ row n table m
-row_part n m table = let e : m * n + n - m * n ≡ n = omega arith in ap (λ (k : ℕ). take k (drop (m * n) table)) e
+  -- too little is left for one more
+  pub rows_end : length rest < n → all ≤ m
+  rows_end short =
+      ⊎_elim
+      (λ (lt : m < all). let le : m + 1 ≤ all = omega arith in omega (arith, rest_size, add-mul m 1 n, one-mul n, mul-le-mul_right n le))
+      (λ (le : all ≤ m). le)
+      (cases_lt m all)
 
-abbrev pub row_fails : ℕ → Columns → ℕ → Option ℕ
-row_fails n c m = first_failing (table_fits c.tails c.heads c.costs (row n c.to m) (row n c.from m)) 0 (lane_count c)
+  module _ (part later : List ℕ) (split : rest ≡ part ++ later) (long : length part ≡ n) where
+    pub row_next : m < all
+    row_next =
+        ⊎_elim
+        (λ (lt : m < all). lt)
+        (λ (le : all ≤ m). omega (arith, rest_size, ap length split, length-append part later, mul-le-mul_right n le))
+        (cases_lt m all)
 
--- the first lane that the test of a landmark's own parts stops at
-abbrev pub parts_fails : ℕ → Columns → ℕ → Option ℕ
-parts_fails n c m = first_failing (table_fits c.tails c.heads c.costs (take (m * n + n - m * n) (drop (m * n) c.to)) (take (m * n + n - m * n) (drop (m * n) c.from))) 0 (lane_count c)
+    -- what is split off is the row of the next landmark
+    pub row_part : part ≡ row n table m
+    row_part = sym (take-append_seam part later) ∙ (λ i. take (long i) (sym split i)) ∙ ap (take n) is
 
-parts_rows : (n m : ℕ) (c : Columns) → parts_fails n c m ≡ row_fails n c m
-parts_rows n m c = λ i. first_failing (table_fits c.tails c.heads c.costs (row_part n m c.to i) (row_part n m c.from i)) 0 (lane_count c)
+    pub rest_next : later ≡ drop ((m + 1) * n) table
+    rest_next =
+        let e : m * n + n ≡ (m + 1) * n = omega (arith, add-mul m 1 n, one-mul n) in
+        sym (drop-append_seam part later) ∙ (λ i. drop (long i) (sym split i)) ∙ ap (drop n) is ∙ drop-drop n (m * n) table ∙ ap (λ (k : ℕ). drop k table) e
 
-module _ (n all m : ℕ) (c : Columns) (lt : m < all) (inv : table_fault n c m (all - m) ≡ table_fault n c 0 all) where
-  one_more : table_fault n c m (all - m) ≡ or_else (λ k. Table m k) (row_fails n c m) (table_fault n c (m + 1) (all - (m + 1)))
-  one_more =
-      let e : all - m ≡ suc (all - (m + 1)) = omega arith in
-      let s : suc m ≡ m + 1 = omega arith in
-      ap (table_fault n c m) e ∙ ap (λ (i : ℕ). or_else (λ k. Table m k) (row_fails n c m) (table_fault n c i (all - (m + 1)))) s
+module _ (n all m : ℕ) (c : Columns) (inv : table_fault n c m (all - m) ≡ table_fault n c 0 all) where
+  pub walk_ends : all ≤ m → None ≡ table_fault n c 0 all
+  walk_ends le = let z : all - m ≡ 0 = omega arith in sym (ap (table_fault n c m) z) ∙ inv
 
-  found : or_else (λ k. Table m k) (parts_fails n c m) (table_fault n c (m + 1) (all - (m + 1))) ≡ table_fault n c 0 all
-  found = ap (λ (o : Option ℕ). or_else (λ k. Table m k) o (table_fault n c (m + 1) (all - (m + 1)))) (parts_rows n m c) ∙ sym one_more ∙ inv
+  module _ (landmark : ℕ) (to from : List ℕ) (named : landmark ≡ m) (to_is : to ≡ row n c.to m) (from_is : from ≡ row n c.from m) (lt : m < all) where
+    -- the first lane that the test of the landmark's own parts stops at
+    abbrev fails : Option ℕ
+    fails = first_failing (table_fits c.tails c.heads c.costs to from) 0 (lane_count c)
 
-  pub landmark_stops : (e : PlantFault) → Some e ≡ or_else (λ k. Table m k) (parts_fails n c m) None → Some e ≡ table_fault n c 0 all
-  landmark_stops e h = walk_named (λ k. Table m k) (parts_fails n c m) e (table_fault n c (m + 1) (all - (m + 1))) h ∙ found
+    found : or_else (λ k. Table landmark k) fails (table_fault n c (m + 1) (all - (m + 1))) ≡ table_fault n c 0 all
+    found =
+        let e : all - m ≡ suc (all - (m + 1)) = omega arith in
+        let s : m + 1 ≡ suc m = omega arith in
+        (λ i. or_else (λ k. Table (named i) k) (first_failing (table_fits c.tails c.heads c.costs (to_is i) (from_is i)) 0 (lane_count c)) (table_fault n c (s i) (all - (m + 1))))
+        ∙ sym (ap (table_fault n c m) e) ∙ inv
 
-  pub landmark_passes : None ≡ or_else (λ k. Table m k) (parts_fails n c m) None → table_fault n c (m + 1) (all - (m + 1)) ≡ table_fault n c 0 all
-  landmark_passes h = ap (λ (o : Option ℕ). or_else (λ k. Table m k) o (table_fault n c (m + 1) (all - (m + 1)))) (sym (walk_passes (λ k. Table m k) (parts_fails n c m) h)) ∙ found
+    pub landmark_stops : (e : PlantFault) → Some e ≡ or_else (λ k. Table landmark k) fails None → Some e ≡ table_fault n c 0 all
+    landmark_stops e h = walk_named (λ k. Table landmark k) fails e (table_fault n c (m + 1) (all - (m + 1))) h ∙ found
+
+    pub landmark_passes : None ≡ or_else (λ k. Table landmark k) fails None → table_fault n c (m + 1) (all - (m + 1)) ≡ table_fault n c 0 all
+    landmark_passes h = ap (λ (o : Option ℕ). or_else (λ k. Table landmark k) o (table_fault n c (m + 1) (all - (m + 1)))) (sym (walk_passes (λ k. Table landmark k) fails h)) ∙ found

@@ -65,19 +65,25 @@ module _ (nodes : ℕ) (tails heads : List ℕ) (passed : first_failing (ends_fi
       let p = and_parts (ltb (get_or tails k 0) nodes) (ltb (get_or heads k 0) nodes && leb (tail_before tails k) (get_or tails k 0)) (fits k (omega (arith, size))) in
       ltb-true _ _ (and_parts (ltb (get_or heads k 0) nodes) (leb (tail_before tails k) (get_or tails k 0)) p.1).0
 
--- lists that an index can be made for
-pub record Indexable (nodes : ℕ) (tails heads : List ℕ) (outs ins by : ℕ) : Type 0 where
-  pub counts : CountsFit nodes (length tails) 0
-  pub sizes : IndexSized nodes (length tails) (length heads) outs ins by
-  pub tails_in : Within nodes tails
-  pub heads_in : Within nodes heads
+-- ends that can be counted and grouped
+pub record Countable (nodes : ℕ) (ends : List ℕ) : Type 0 where
+  pub small : nodes ≤ 4096
+  pub few : length ends ≤ 16384
+  pub within : Within nodes ends
 
-pub indexable : (nodes : ℕ) (tails heads : List ℕ) (outs ins by : ℕ) → None ≡ index_fault nodes tails heads outs ins by → Indexable nodes tails heads outs ins by
-indexable nodes tails heads outs ins by h =
+-- so can the tails and the heads that the tests passed
+pub countable : (nodes landmarks : ℕ) (tails heads : List ℕ) → counts_fit nodes (length tails) landmarks ≡ true → length heads ≡ length tails → None ≡ or_else (λ k. Ends k) (first_failing (ends_fit nodes tails heads) 0 (length tails)) None → Countable nodes tails × Countable nodes heads
+countable nodes landmarks tails heads counts size ends =
+    let c = counts_passed nodes (length tails) landmarks counts in
+    let e = walk_passes (λ k. Ends k) (first_failing (ends_fit nodes tails heads) 0 (length tails)) ends in (
+      record { small = c.small; few = c.few; within = tails_within nodes tails heads e },
+      record { small = c.small; few = omega (arith, size, c.few); within = heads_within nodes tails heads e size },
+    )
+
+-- the lengths of lists that an index can be made in
+pub index_sizes : (nodes : ℕ) (tails heads : List ℕ) (outs ins by : ℕ) → None ≡ index_fault nodes tails heads outs ins by → IndexSized nodes (length tails) (length heads) outs ins by
+index_sizes nodes tails heads outs ins by h =
     let sizes-fit = index_lengths_fit nodes (length tails) (length heads) outs ins by in
-    let ends = first_failing (ends_fit nodes tails heads) 0 (length tails) in
-    let p = test_passed (counts_fit nodes (length tails) 0) (cond sizes-fit (or_else (λ k. Ends k) ends None) (Some Lengths)) Counts h in
-    let q = test_passed sizes-fit (or_else (λ k. Ends k) ends None) Lengths p.1 in
-    let e = walk_passes (λ k. Ends k) ends q.1 in
-    let sizes = index_sized nodes (length tails) (length heads) outs ins by q.0 in
-    record { counts = counts_passed nodes (length tails) 0 p.0; sizes = sizes; tails_in = tails_within nodes tails heads e; heads_in = heads_within nodes tails heads e sizes.heads_size }
+    let ends = or_else (λ k. Ends k) (first_failing (ends_fit nodes tails heads) 0 (length tails)) None in
+    let p = test_passed (counts_fit nodes (length tails) 0) (cond sizes-fit ends (Some Lengths)) Counts h in
+    index_sized nodes (length tails) (length heads) outs ins by (test_passed sizes-fit ends Lengths p.1).0

@@ -1,6 +1,7 @@
 -- What the lists of a plant hold.
 use Rattle.std.specs.Prelude.{ℕ, ◌*◌, List, length, take, drop}
-use Rattle.plants.specs.declared.lists.Lists.{Lists}
+use denote.Ref.{Bor}
+use Rattle.plants.specs.declared.lists.ListsOf.{ListsOf}
 
 pub record Columns : Type 0 where
   pub tails : List ℕ
@@ -12,7 +13,7 @@ pub record Columns : Type 0 where
   pub to : List ℕ
   pub from : List ℕ
 
-abbrev pub columns : Lists → Columns
+abbrev pub columns : ListsOf (Bor (List ℕ)) → Columns
 columns l = record {
   tails = l.tails.now;
   heads = l.heads.now;

@@ -1,28 +1,25 @@
--- A walk that looks for the first number that fails a test, one turn at a time.
-use Rattle.std.proofs.Common.{◌≡◌, ℕ, zero, suc, ◌+◌, ◌-◌, ◌<◌, ◌≤◌, Bool, true, false, cond, ◌⊎◌, Some, None, Option, sym, ap, ◌∙◌, inl, inr, ⊎_elim, arith}
-use Rattle.std.proofs.lemmas.Bool.{cases_Bool, cases_lt, cond-true, cond-false}
-use Rattle.plants.specs.declared.fault.PlantFault.{PlantFault}
-use Rattle.plants.specs.Faults.{first_failing, or_else}
+-- The first number that fails a test, by what holds of it and of those before it.
+use Rattle.std.proofs.Common.{◌≡◌, ℕ, zero, suc, ◌+◌, ◌<◌, ◌≤◌, Bool, true, false, MatchOption, ◌⊎◌, Some, None, Option, sym, refl, ap, ◌∙◌, inl, inr, ⊎_elim, arith}
+use Rattle.std.proofs.lemmas.Bool.{cases_Bool, cases_eq, cases_lt, cond-true, cond-false}
+use Rattle.plants.specs.Faults.{first_failing}
 
-module _ (fits : ℕ → Bool) (k n : ℕ) where
-  one_more : k < n → first_failing fits k (n - k) ≡ cond (fits k) (first_failing fits (k + 1) (n - (k + 1))) (Some k)
-  one_more lt =
-      let e : n - k ≡ suc (n - (k + 1)) = omega arith in
-      let s : suc k ≡ k + 1 = omega arith in
-      ap (first_failing fits k) e ∙ ap (λ (m : ℕ). cond (fits k) (first_failing fits m (n - (k + 1))) (Some k)) s
+all_pass : (fits : ℕ → Bool) (k n : ℕ) → ((i : ℕ) → k ≤ i → i < k + n → fits i ≡ true) → first_failing fits k n ≡ None
+all_pass fits k zero each = refl
+all_pass fits k (suc n) each =
+    cond-true (fits k) _ _ (each k (omega arith) (omega arith)) ∙ all_pass fits (suc k) n (λ i a b. each i (omega arith) (omega arith))
 
-  failing_passed : k < n → fits k ≡ true → first_failing fits k (n - k) ≡ first_failing fits (k + 1) (n - (k + 1))
-  failing_passed lt e = one_more lt ∙ cond-true (fits k) _ _ e
+first_is : (fits : ℕ → Bool) (k n i : ℕ) → k ≤ i → i < k + n → fits i ≡ false → ((j : ℕ) → k ≤ j → j < i → fits j ≡ true) → first_failing fits k n ≡ Some i
+first_is fits k zero i low high fails before = absurd (omega arith)
+first_is fits k (suc n) i low high fails before =
+    ⊎_elim
+    (λ (here : k ≡ i). cond-false (fits k) _ _ (ap fits here ∙ fails) ∙ ap Some here)
+    (λ (later : k ≡ i → ⊥). cond-true (fits k) _ _ (before k (omega arith) (omega arith)) ∙ first_is fits (suc k) n i (omega arith) (omega arith) fails (λ j a b. before j (omega arith) b))
+    (cases_eq k i)
 
-  failing_here : k < n → fits k ≡ false → first_failing fits k (n - k) ≡ Some k
-  failing_here lt e = one_more lt ∙ cond-false (fits k) _ _ e
-
-  -- one turn on, what is left still finds what the whole walk finds
-  pub walk_on : k < n → fits k ≡ true → first_failing fits k (n - k) ≡ first_failing fits 0 n → first_failing fits (k + 1) (n - (k + 1)) ≡ first_failing fits 0 n
-  walk_on lt e inv = sym (failing_passed lt e) ∙ inv
-
-  pub walk_stops : (fault : ℕ → PlantFault) → k < n → fits k ≡ false → first_failing fits k (n - k) ≡ first_failing fits 0 n → Some (fault k) ≡ or_else fault (first_failing fits 0 n) None
-  walk_stops fault lt e inv = ap (λ (o : Option ℕ). or_else fault o None) (sym (failing_here lt e) ∙ inv)
+-- what a search of the numbers below n finds
+pub found : (fits : ℕ → Bool) (n : ℕ) (r : Option ℕ) → MatchOption r ((k : ℕ) → 0 ≤ k → k < n → k < n → fits k ≡ true) (λ i. (0 ≤ i) × (i < n) × (i < n → fits i ≡ false) × ((k : ℕ) → 0 ≤ k → k < i → k < n → fits k ≡ true)) → r ≡ first_failing fits 0 n
+found fits n None each = sym (all_pass fits 0 n (λ i a b. each i (omega arith) (omega arith) (omega arith)))
+found fits n (Some i) is = let lt = is.1 in sym (first_is fits 0 n i (omega arith) (omega arith) (is.2 (omega arith)) (λ j a b. is.3 j (omega arith) b (omega arith)))
 
 -- where the walk stops nowhere, every number passes
 pub none_fails : (fits : ℕ → Bool) (k n i : ℕ) → first_failing fits k n ≡ None → k ≤ i → i < k + n → fits i ≡ true

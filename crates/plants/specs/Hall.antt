@@ -4,6 +4,8 @@ use Rattle.std.proofs.Common.{arith}
 use Rattle.cost.specs.declared.class.Class.{Class}
 use Rattle.plant.specs.declared.lane.Lane.{Lane}
 use Rattle.plant.specs.Floor.{Floor}
+use Rattle.plants.specs.declared.direction.Direction.{Direction}
+use Rattle.plants.specs.declared.direction.Direction.TheVariants.{North, East, South, West}
 use Rattle.plants.specs.declared.fault.PlantFault.{PlantFault}
 use Rattle.plants.specs.declared.fault.PlantFault.TheVariants.{Counts, Lengths}
 use Rattle.plants.specs.declared.hall.Hall.{Hall}
@@ -38,6 +40,13 @@ neighbour nodes columns v zero = cond (has_north columns v) (Some (v - columns))
 neighbour nodes columns v (suc zero) = cond (has_east columns v) (Some (v + 1)) None
 neighbour nodes columns v (suc (suc zero)) = cond (has_south nodes columns v) (Some (v + columns)) None
 neighbour nodes columns v (suc (suc (suc d))) = cond (has_west columns v) (Some (v - 1)) None
+
+-- the number of a direction
+abbrev pub side_of : Direction → ℕ
+side_of North = 0
+side_of East = 1
+side_of South = 2
+side_of West = 3
 
 -- the lane from v that enters a cell, or leads back to v
 abbrev pub lane_to : List ℕ → ℕ → Option ℕ → Lane Class

@@ -1,5 +1,5 @@
 -- Where a cell of a hall has neighbours, and that these are cells of the hall.
-use Rattle.std.proofs.Common.{◌≡◌, ℕ, zero, suc, ◌+◌, ◌-◌, ◌*◌, ◌%◌, ◌<◌, ◌≤◌, Some, None, Option, subst, ⊎_elim, arith}
+use Rattle.std.proofs.Common.{◌≡◌, ℕ, zero, suc, ◌+◌, ◌-◌, ◌*◌, ◌%◌, ◌<◌, ◌≤◌, IfSome, Some, None, Option, sym, subst, ⊎_elim, arith}
 use native.Mathlib.Nat.{mul-mod_left, mod-one, zero-mod}
 use Rattle.std.proofs.lemmas.Nat.{mul-le}
 use Rattle.std.proofs.lemmas.Bool.{cases_eq, cond_both, ltb-true}
@@ -63,3 +63,7 @@ module _ (nodes columns : ℕ) (rows : Rows nodes columns) (v : ℕ) (inside : v
       cond_both (has_south nodes columns v) (Some (v + columns)) None InHall (λ h. one_in (v + columns) (ltb-true (v + columns) nodes h)) (λ h. none_in)
   neighbour_in (suc (suc (suc side))) =
       cond_both (has_west columns v) (Some (v - 1)) None InHall (λ h. one_in (v - 1) (omega arith)) (λ h. none_in)
+
+  pub answered_in : (side : ℕ) (r : Option ℕ) → r ≡ neighbour nodes columns v side → IfSome r (λ w. w < nodes)
+  answered_in side None e = tt
+  answered_in side (Some w) e = neighbour_in side w (sym e)

@@ -1,9 +1,10 @@
 // A hall answers the questions of a plant, each in constant time.
-ghost use Rattle.std.specs.Prelude.{◌≡◌, ◌*◌, ◌<◌};
+ghost use Rattle.std.specs.Prelude.{◌≡◌, ◌*◌, ◌<◌, IfSome};
 ghost use Rattle.plants.specs.HallLaws.{hall_laws};
 ghost use Rattle.plants.specs.HallSides.{rows_of};
-ghost use Rattle.plants.specs.Hall.{neighbour, hall_floor};
+ghost use Rattle.plants.specs.Hall.{neighbour, side_of, hall_floor};
 
+use crate::direction::Direction;
 use crate::hall::Hall;
 use cost::class::Class;
 use cost::kind::CostKind;
@@ -30,26 +31,16 @@ impl Plant for Hall<'_> {
         if v >= self.rows * self.columns {
             return None;
         }
-        match neighbour_of(*self, v, k % 4) {
-            Some(head) => Some(Lane {
-                tail: v,
-                head,
-                cost: Class::from(self.cells[head as usize]),
-            }),
-            None => Some(Lane {
-                tail: v,
-                head: v,
-                cost: Class::from(255),
-            }),
-        }
+        let neighbour = self.neighbour(v, Direction::of_lane(k));
+        Some(Lane {
+            tail: v,
+            head: neighbour.unwrap_or(v),
+            cost: Class::from(neighbour.map_or(255, |w| self.cells[w as usize])),
+        })
     }
 
     fn out_lane(&self, v: u32, j: u32) -> Option<u32> {
-        if v < self.rows * self.columns && j < 4 {
-            Some(4 * v + j)
-        } else {
-            None
-        }
+        (v < self.rows * self.columns && j < 4).then(|| 4 * v + j)
     }
 
     // Eight lanes may lead into `v`, by rising number: from the north, from the west, v's own to the north, east, south and
@@ -93,20 +84,19 @@ impl Plant for Hall<'_> {
     }
 }
 
-// The neighbour of `v` to the north, east, south or west, as `side` is 0, 1, 2 or more.
-fn neighbour_of(hall: Hall, v: u32, side: u32) -> Option<u32>
-    requires { v < hall.rows * hall.columns }
-    ensures { result ≡ neighbour (hall.entry.rows * hall.entry.columns) hall.entry.columns v side }
-{
-    let w = hall.columns;
-    match side {
-        0 => if v >= w { Some(v - w) } else { None },
-        1 => if (v + 1) % w > 0 { Some(v + 1) } else { None },
-        2 => if v + w < hall.rows * w {
-            Some(v + w)
-        } else {
-            None
-        },
-        _ => if v % w > 0 { Some(v - 1) } else { None },
+impl Hall<'_> {
+    // The neighbour of `v` to that side, where there is one.
+    fn neighbour(self, v: u32, side: Direction) -> Option<u32>
+        requires { v < self.rows * self.columns }
+        ensures inside { IfSome result (λ w. w < self.entry.rows * self.entry.columns) }
+        ensures is { result ≡ neighbour (self.entry.rows * self.entry.columns) self.entry.columns v (side_of side) }
+    {
+        let w = self.columns;
+        match side {
+            Direction::North => v.checked_sub(w),
+            Direction::East => ((v + 1) % w > 0).then(|| v + 1),
+            Direction::South => (v + w < self.rows * self.columns).then(|| v + w),
+            Direction::West => (v % w > 0).then(|| v - 1),
+        }
     }
 }

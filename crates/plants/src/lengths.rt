@@ -8,38 +8,46 @@ ghost use Rattle.plants.specs.Faults.{index_lengths_fit, lengths_fit};
 use crate::fault::PlantFault;
 use crate::lists::Lists;
 
-pub(crate) fn fits_index_lengths(
-    nodes: u32,
-    lanes: usize,
-    heads: usize,
-    outs: usize,
-    ins: usize,
-    by: usize,
-) -> bool
-    ensures { result ≡ index_lengths_fit nodes lanes heads outs ins by }
-{
-    let size = nodes as usize + 1;
-    heads == lanes && outs == size && ins == size && by == lanes
+// How long the heads and the three index lists are.
+#[derive(Clone, Copy, PartialEq, Eq)]
+pub(crate) struct IndexLengths {
+    pub(crate) heads: usize,
+    pub(crate) outs: usize,
+    pub(crate) ins: usize,
+    pub(crate) by: usize,
 }
 
-pub(crate) fn check_lengths<'a>(
-    nodes: u32,
-    landmarks: u32,
-    lists: Lists<'a>,
-) -> Result<(), PlantFault>
+impl IndexLengths {
+    // Whether they are those for so many nodes and lanes.
+    pub(crate) fn fit(self, nodes: u32, lanes: usize) -> bool
+        ensures { result ≡ index_lengths_fit nodes lanes self.heads self.outs self.ins self.by }
+    {
+        let firsts = nodes as usize + 1;
+        self == IndexLengths {
+            heads: lanes,
+            outs: firsts,
+            ins: firsts,
+            by: lanes,
+        }
+    }
+}
+
+pub(crate) fn check_lengths(nodes: u32, landmarks: u32, lists: Lists) -> Result<(), PlantFault>
     ensures { result_err result ≡ (if lengths_fit nodes landmarks (columns lists.entry) then None else Some Lengths) }
 {
     let lanes = lists.tails.len();
     let size = landmarks as usize * nodes as usize;
-    let index = fits_index_lengths(
-        nodes,
-        lanes,
-        lists.heads.len(),
-        lists.first_out.len(),
-        lists.first_in.len(),
-        lists.by_head.len(),
-    );
-    if index && lists.costs.len() == lanes && lists.to.len() == size && lists.from.len() == size {
+    let index = IndexLengths {
+        heads: lists.heads.len(),
+        outs: lists.first_out.len(),
+        ins: lists.first_in.len(),
+        by: lists.by_head.len(),
+    };
+    if index.fit(nodes, lanes)
+        && lists.costs.len() == lanes
+        && lists.to.len() == size
+        && lists.from.len() == size
+    {
         Ok(())
     } else {
         Err(PlantFault::Lengths)

@@ -2,12 +2,14 @@
 #![tactic(auto)]
 
 pub mod check;
+mod direction;
 pub mod fault;
 mod firsts;
 mod groups;
 pub mod hall;
 pub mod hall_questions;
 pub mod index;
+mod lane_ends;
 pub mod lane_plant;
 mod lengths;
 pub mod lists;

@@ -1,56 +1,68 @@
 // Making a lane plant from lists.
-ghost use Rattle.std.specs.Prelude.{◌≡◌, ◌≤◌, length, if◌then◌else◌, Some, None, MatchResult};
+ghost use Rattle.std.specs.Prelude.{◌≡◌, IfOk, MatchResult};
 ghost use Rattle.std.specs.Result.{result_err};
-ghost use Rattle.plants.specs.declared.fault.PlantFault.TheVariants.{Index};
 ghost use Rattle.plants.specs.Columns.{columns};
 ghost use Rattle.plants.specs.Faults.{plant_fault, index_fits};
 ghost use Rattle.plants.specs.Lone.{lone_columns};
-ghost use Rattle.plants.specs.Tally.{Within};
 
 use crate::check::{check_costs, check_counts, check_ends};
 use crate::fault::PlantFault;
-use crate::firsts::fits_firsts;
-use crate::groups::fits_groups;
+use crate::lane_ends::Ends;
 use crate::lane_plant::LanePlant;
 use crate::lengths::check_lengths;
 use crate::lists::Lists;
 use crate::tables::check_tables;
 
-// Whether the three index lists are those of the lanes. The counts are made anew, and each lane is looked up at its place.
-fn check_index<'a>(nodes: u32, lists: Lists<'a>) -> Result<(), PlantFault>
-    requires small { nodes ≤ 4096 }
-    requires few { length lists.tails.now ≤ 16384 }
-    requires heads { length lists.heads.now ≡ length lists.tails.now }
-    requires size { length lists.by_head.now ≡ length lists.tails.now }
-    requires tails_within { Within nodes lists.tails.now }
-    requires heads_within { Within nodes lists.heads.now }
-    ensures { result_err result ≡ (if index_fits nodes (columns lists.entry) then None else Some Index) }
-{
-    if !fits_firsts(nodes, lists.tails, lists.first_out) {
-        return Err(PlantFault::Index);
-    }
-    if !fits_firsts(nodes, lists.heads, lists.first_in) {
-        return Err(PlantFault::Index);
-    }
-    if !fits_groups(nodes, lists.heads, lists.first_in, lists.by_head) {
-        return Err(PlantFault::Index);
-    }
-    Ok(())
-}
-
 // The six tests in order, each in time linear in the lists that it reads.
-fn test<'a>(nodes: u32, landmarks: u32, lists: Lists<'a>) -> Result<(), PlantFault>
+fn test(nodes: u32, landmarks: u32, lists: Lists) -> Result<(), PlantFault>
     ensures { result_err result ≡ plant_fault nodes landmarks (columns lists.entry) }
 {
     check_counts(nodes, lists.tails.len(), landmarks)?;
     check_lengths(nodes, landmarks, lists)?;
     check_ends(nodes, lists.tails, lists.heads)?;
     check_costs(lists.costs)?;
-    check_index(nodes, lists)?;
+    let tails = Ends {
+        nodes,
+        list: lists.tails,
+    };
+    let heads = Ends {
+        nodes,
+        list: lists.heads,
+    };
+    if !fits_index(tails, heads, lists) {
+        return Err(PlantFault::Index);
+    }
     check_tables(nodes, landmarks, lists)
 }
 
-// Puts the lists into the plant that the caller holds.
+// Whether the three index lists are those of the tails and heads. All are made anew, and compared.
+fn fits_index(tails: Ends, heads: Ends, lists: Lists) -> bool
+    requires nodes { heads.nodes ≡ tails.nodes }
+    requires tails { tails.list.now ≡ lists.tails.now }
+    requires heads { heads.list.now ≡ lists.heads.now }
+    ensures { result ≡ index_fits tails.entry.nodes (columns lists.entry) }
+{
+    tails.fits_firsts(lists.first_out)
+        && heads.fits_firsts(lists.first_in)
+        && heads.fits_groups(lists.first_in, lists.by_head)
+}
+
+impl<'a> LanePlant<'a> {
+    // The plant that the lists make, or the first test that they fail.
+    pub fn new(nodes: u32, landmarks: u32, lists: Lists<'a>) -> Result<LanePlant<'a>, PlantFault>
+        ensures fault { result_err result ≡ plant_fault nodes landmarks (columns lists.entry) }
+        ensures made { IfOk result (λ plant. (plant.nodes ≡ nodes) × (plant.landmarks ≡ landmarks) × (columns plant.lists ≡ columns lists.entry)) }
+    {
+        test(nodes, landmarks, lists)?;
+        Ok(LanePlant {
+            nodes,
+            landmarks,
+            lists,
+        })
+    }
+}
+
+// Puts the lists into the plant that the caller holds, or leaves it as it was.
 pub fn make<'a>(
     plant: &mut LanePlant<'a>,
     nodes: u32,
@@ -60,12 +72,7 @@ pub fn make<'a>(
     ensures fault { result_err result ≡ plant_fault nodes landmarks (columns lists.entry) }
     ensures made { MatchResult result (λ _. (plant.new.nodes ≡ nodes) × (plant.new.landmarks ≡ landmarks) × (columns plant.new.lists ≡ columns lists.entry)) (λ _. plant.new ≡ plant.old) }
 {
-    test(nodes, landmarks, lists)?;
-    *plant = LanePlant {
-        nodes,
-        landmarks,
-        lists,
-    };
+    *plant = LanePlant::new(nodes, landmarks, lists)?;
     Ok(())
 }
 

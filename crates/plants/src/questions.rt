@@ -1,11 +1,11 @@
 // A lane plant answers the questions of a plant, each in constant time but the bound, which looks at each landmark.
-ghost use Rattle.std.specs.Prelude.{◌≡◌, ◌-◌, ◌<◌, max, length, slice_index};
+ghost use Rattle.std.specs.Prelude.{◌≡◌, ◌+◌, ◌-◌, ◌<◌, ◌≤◌, max, length, IfSome, IfNone, slice_index};
 ghost use Rattle.plants.specs.LaidLaws.{laid_laws};
 ghost use Rattle.plants.specs.Lawful.{kept};
 ghost use Rattle.plants.specs.Laid.{floor_of};
 
+use crate::check::at;
 use crate::lane_plant::LanePlant;
-use crate::lists::Lists;
 use cost::kind::CostKind;
 use cost::length::Length;
 use plant::lane::Lane;
@@ -29,69 +29,52 @@ impl Plant for LanePlant<'_> {
     fn lane(&self, k: u32) -> Option<Lane<Length>> {
         let i = k as usize;
         let lists = self.lists;
-        if i < lists.tails.len() {
-            Some(Lane {
-                tail: lists.tails[i],
-                head: lists.heads[i],
-                cost: Length::from(lists.costs[i]),
-            })
-        } else {
-            None
-        }
+        let tail = *lists.tails.get(i)?;
+        Some(Lane {
+            tail,
+            head: lists.heads[i],
+            cost: Length::from(lists.costs[i]),
+        })
     }
 
     fn out_lane(&self, v: u32, j: u32) -> Option<u32> {
-        if v >= self.nodes {
-            return None;
-        }
-        let i = v as usize;
-        let lists = self.lists;
-        let from = lists.first_out[i];
-        let past = lists.first_out[i + 1];
-        if j < past - from {
-            Some(from + j)
-        } else {
-            None
-        }
+        nth_place(self.lists.first_out, v, j)
     }
 
     fn into_lane(&self, v: u32, j: u32) -> Option<u32> {
-        if v >= self.nodes {
-            return None;
-        }
-        let i = v as usize;
-        let lists = self.lists;
-        let from = lists.first_in[i];
-        let past = lists.first_in[i + 1];
-        if j < past - from {
-            Some(lists.by_head[(from + j) as usize])
-        } else {
-            None
-        }
+        let place = nth_place(self.lists.first_in, v, j)?;
+        Some(self.lists.by_head[place as usize])
     }
 
     fn bound(&self, v: u32, w: u32) -> Length {
         if v >= self.nodes || w >= self.nodes {
             return Length::from(0);
         }
-        let lists = self.lists;
-        let nodes = self.nodes as usize;
+        let to = self.lists.to.chunks_exact(self.nodes as usize);
+        let from = self.lists.from.chunks_exact(self.nodes as usize);
         let mut best = 0;
-        for m in 0..self.landmarks as usize {
-            let row = m * nodes;
-            best = best.max(gap(lists, row + v as usize, row + w as usize));
+        for (to, from) in to.zip(from) {
+            best = best.max(gap(to, from, v as usize, w as usize));
         }
         Length::from(best)
     }
 }
 
-// The greater of how much further `v` is to the landmark than `w`, and `w` from it than `v`; both are places in the tables.
-fn gap(lists: Lists, v: usize, w: usize) -> u32
-    requires to { (v < length lists.to.now) × (w < length lists.to.now) }
-    requires from { (v < length lists.from.now) × (w < length lists.from.now) }
-    ensures { result ≡ max (slice_index lists.entry.to.now v - slice_index lists.entry.to.now w) (slice_index lists.entry.from.now w - slice_index lists.entry.from.now v) }
+// The place of the `j`-th lane at node `v`, where `firsts` has the place of the first at each node.
+fn nth_place(firsts: &[u32], v: u32, j: u32) -> Option<u32>
+    ensures some { IfSome result (λ place. (v + 1 < length firsts.now) × (place ≡ slice_index firsts.now v + j) × (place < slice_index firsts.now (v + 1))) }
+    ensures none { IfNone result (v + 1 < length firsts.now → slice_index firsts.now (v + 1) ≤ slice_index firsts.now v + j) }
 {
-    let to = lists.to[v].saturating_sub(lists.to[w]);
-    let from = lists.from[w].saturating_sub(lists.from[v]);
-    to.max(from)
+    let v = v as usize;
+    let first = *firsts.get(v)?;
+    let past = *firsts.get(v + 1)?;
+    first.checked_add(j).filter(|place| *place < past)
+}
+
+// The greater of how much further `v` is to a landmark than `w`, and `w` from it than `v`, by the landmark's own tables.
+fn gap(to: &[u32], from: &[u32], v: usize, w: usize) -> u32
+    ensures { result ≡ max (slice_index to.now v - slice_index to.now w) (slice_index from.now w - slice_index from.now v) }
+{
+    let further = at(to, v).saturating_sub(at(to, w));
+    further.max(at(from, w).saturating_sub(at(from, v)))
 }

@@ -5,11 +5,11 @@ ghost use Rattle.plants.specs.Told.{refusal_of};
 use crate::fault::PlantFault;
 use plant::refusal::{Layer, Refusal};
 
-impl PlantFault {
-    pub fn refusal(self) -> Refusal
-        ensures { result ≡ refusal_of self }
-    {
-        let (number, first, second) = match self {
+impl From<PlantFault> for Refusal {
+    ghost from_gives = { λ fault told. told ≡ refusal_of fault };
+
+    fn from(fault: PlantFault) -> Refusal {
+        let (number, first, second) = match fault {
             PlantFault::Counts => (1, 0, 0),
             PlantFault::Lengths => (2, 0, 0),
             PlantFault::Ends(lane) => (3, lane, 0),
@@ -23,5 +23,13 @@ impl PlantFault {
             first,
             second,
         }
+    }
+}
+
+impl PlantFault {
+    pub fn refusal(self) -> Refusal
+        ensures { result ≡ refusal_of self }
+    {
+        self.into()
     }
 }

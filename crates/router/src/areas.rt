@@ -2,7 +2,7 @@
 use cost::length::Length;
 use format::counts::Counts;
 use search::entry::{Entry, no_entry};
-use search::reply::Reply;
+use search::reply::{Done, Reply};
 use search::row::Row;
 use search::rows::blank_row;
 use std::alloc::{AllocError, Global};
@@ -67,7 +67,7 @@ pub fn search_room(heap: Global) -> Result<SearchRoom, AllocError> {
 
 pub fn reply_room(heap: Global, calls: usize) -> Result<ReplyRoom, AllocError> {
     Ok(ReplyRoom {
-        replies: vec![in heap; Reply::Closed(0); calls]?,
+        replies: vec![in heap; Ok(Done::Closed(0)); calls]?,
         routes: vec![in heap; 0; calls.saturating_mul(128)]?,
     })
 }

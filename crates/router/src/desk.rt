@@ -1,7 +1,7 @@
 // The program's work: the plant first, then the commands in turn.
 use crate::areas::{MOST, PlantRoom, plant_room, reply_room, search_room};
 use crate::input::MOST_BYTES;
-use crate::show::{Told, of_call, of_reader};
+use crate::show::{Refused, Told};
 use cost::length::Length;
 use format::command::{Command, line_feed_after, read_command};
 use format::fault::ReadFault;
@@ -13,19 +13,19 @@ use plants::make::{lone, make};
 use search::call::Call;
 use search::reply::Reply;
 use search::serve::serve as serve_calls;
-use std::alloc::AllocError;
+use std::alloc::{AllocError, Global};
 
 // Prints the answer to each command of the text, or why its plant is refused.
 pub fn serve(rt: &HostRuntime, text: &[u8]) -> anyhow::Result<()> {
     if text.len() > MOST_BYTES {
-        rt.println(of_reader(ReadFault::Short))?;
+        rt.println(Refused::from(ReadFault::Short))?;
         return Ok(());
     }
     let mut room = plant_room(rt.alloc())?;
     match fill(text, &mut room) {
         Ok(file) => serve_plant(rt, text, file, &room),
         Err(fault) => {
-            rt.println(of_reader(fault))?;
+            rt.println(Refused::from(fault))?;
             Ok(())
         }
     }
@@ -75,17 +75,10 @@ fn serve_plant(
     match make(&mut plant, file.counts.nodes, file.counts.landmarks, lists) {
         Ok(()) => answer_all(rt, text, file, &plant),
         Err(fault) => {
-            rt.println(of_call(fault.refusal()))?;
+            rt.println(Refused::from(fault.refusal()))?;
             Ok(())
         }
     }
-}
-
-// What is read of a line: a call, or a fault.
-#[derive(Clone, Copy)]
-pub enum LineRead {
-    Call,
-    Fault(ReadFault),
 }
 
 fn call_of(command: Command) -> Call {
@@ -97,27 +90,32 @@ fn call_of(command: Command) -> Call {
     }
 }
 
-// Reads each line behind the plant file.
+// Reads each line behind the plant file: a call, or a fault.
 fn read_lines(
+    heap: Global,
     text: &[u8],
     file: PlantFile,
-    calls: &mut Vec<Call>,
-    lines: &mut Vec<LineRead>,
-) -> Result<(), AllocError> {
+) -> Result<Vec<Result<Call, ReadFault>>, AllocError> {
+    let mut lines = Vec::new(heap);
     let mut at = file.end;
     let mut line = file.lines.saturating_add(1);
     while at < text.len() {
-        match read_command(text, at, line) {
-            Ok(read) => {
-                calls.push(call_of(read.command))?;
-                lines.push(LineRead::Call)?;
-            }
-            Err(fault) => lines.push(LineRead::Fault(fault))?,
-        }
+        lines.push(read_command(text, at, line).map(|read| call_of(read.command)))?;
         at = line_feed_after(text, at);
         line = line.saturating_add(1);
     }
-    Ok(())
+    Ok(lines)
+}
+
+// The calls among the lines.
+fn calls_of(heap: Global, lines: &[Result<Call, ReadFault>]) -> Result<Vec<Call>, AllocError> {
+    let mut calls = Vec::new(heap);
+    for line in lines {
+        if let Ok(call) = *line {
+            calls.push(call)?;
+        }
+    }
+    Ok(calls)
 }
 
 // Makes all calls on a fresh shift over the plant, and prints the replies and the faults in the order of the lines.
@@ -127,9 +125,8 @@ fn answer_all(
     file: PlantFile,
     plant: &LanePlant,
 ) -> anyhow::Result<()> {
-    let mut calls = Vec::new(rt.alloc());
-    let mut lines = Vec::new(rt.alloc());
-    read_lines(text, file, &mut calls, &mut lines)?;
+    let lines = read_lines(rt.alloc(), text, file)?;
+    let calls = calls_of(rt.alloc(), lines.as_slice())?;
     let mut areas = search_room(rt.alloc())?;
     let mut told = reply_room(rt.alloc(), calls.len())?;
     let served = serve_calls(
@@ -150,7 +147,7 @@ fn answer_all(
             told.routes.as_slice(),
         ),
         Err(fault) => {
-            rt.println(of_call(fault.refusal()))?;
+            rt.println(Refused::from(fault.refusal()))?;
             Ok(())
         }
     }
@@ -159,21 +156,22 @@ fn answer_all(
 // Prints a line for each line read: the next reply, or its fault.
 fn print_all(
     rt: &HostRuntime,
-    lines: &[LineRead],
+    lines: &[Result<Call, ReadFault>],
     replies: &[Reply<Length>],
     routes: &[u32],
 ) -> anyhow::Result<()> {
-    let mut next = 0usize;
+    let mut replies = replies.iter();
     for line in lines {
         match *line {
-            LineRead::Fault(fault) => rt.println(of_reader(fault))?,
-            LineRead::Call => {
-                if next < replies.len() {
-                    let reply = replies[next];
-                    rt.println(Told { reply, routes })?;
+            Ok(_) => {
+                if let Some(reply) = replies.next() {
+                    rt.println(Told {
+                        reply: *reply,
+                        routes,
+                    })?;
                 }
-                next = next.saturating_add(1);
             }
+            Err(fault) => rt.println(Refused::from(fault))?,
         }
     }
     Ok(())

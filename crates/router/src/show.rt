@@ -2,7 +2,8 @@
 use cost::length::Length;
 use format::fault::ReadFault;
 use plant::refusal::{Layer, Refusal};
-use search::reply::{CallFault, Counts, Reply};
+use search::answer::Counts;
+use search::reply::{Done, Reply};
 use std::fmt;
 
 // The nodes of a route, parted by spaces.
@@ -34,8 +35,26 @@ fn layer_name(layer: Layer) -> &'static str {
 // A refusal, and the line that the reader adds to a plant's.
 #[derive(Drop)]
 pub struct Refused {
-    pub refusal: Refusal,
-    pub line: Option<usize>,
+    refusal: Refusal,
+    line: Option<usize>,
+}
+
+impl From<Refusal> for Refused {
+    fn from(refusal: Refusal) -> Refused {
+        Refused {
+            refusal,
+            line: None,
+        }
+    }
+}
+
+impl From<ReadFault> for Refused {
+    fn from(fault: ReadFault) -> Refused {
+        Refused {
+            refusal: fault.refusal(),
+            line: fault.added_line(),
+        }
+    }
 }
 
 impl fmt::Display for Refused {
@@ -48,31 +67,10 @@ impl fmt::Display for Refused {
         } = self.refusal;
         let name = layer_name(layer);
         write!(f, "(refused {number} {name} {first} {second}")?;
-        match self.line {
-            Some(line) => write!(f, " {line})"),
-            None => f.write_str(")"),
+        if let Some(line) = self.line {
+            write!(f, " {line}")?;
         }
-    }
-}
-
-pub fn of_call(refusal: Refusal) -> Refused {
-    Refused {
-        refusal,
-        line: None,
-    }
-}
-
-pub fn of_reader(fault: ReadFault) -> Refused {
-    Refused {
-        refusal: fault.refusal(),
-        line: fault.added_line(),
-    }
-}
-
-fn fault_refusal(fault: CallFault) -> Refusal {
-    match fault {
-        CallFault::Search(x) => x.refusal(),
-        CallFault::Shift(x) => x.refusal(),
+        f.write_str(")")
     }
 }
 
@@ -82,10 +80,12 @@ struct Scans(Counts);
 
 impl fmt::Display for Scans {
     fn fmt<W: fmt::Write>(&self, f: &mut fmt::Formatter<W>) -> fmt::Result {
-        match self.0 {
-            Counts::Forward(n) => write!(f, "{n}"),
-            Counts::Both(n, m) => write!(f, "{n} {m}"),
+        let Counts { forward, back } = self.0;
+        write!(f, "{forward}")?;
+        if let Some(back) = back {
+            write!(f, " {back}")?;
         }
+        Ok(())
     }
 }
 
@@ -106,25 +106,21 @@ fn nodes_at(routes: &[u32], from: usize, nodes: u32) -> Nodes {
 impl fmt::Display for Told<'_> {
     fn fmt<W: fmt::Write>(&self, f: &mut fmt::Formatter<W>) -> fmt::Result {
         match self.reply {
-            Reply::Closed(lane) => write!(f, "(closed {lane})"),
-            Reply::Reopened(lane) => write!(f, "(reopened {lane})"),
-            Reply::Route {
-                cost,
-                counts,
-                from,
-                nodes,
-            } => {
-                let metres = cost.metres;
-                let scans = Scans(counts);
-                let nodes = nodes_at(self.routes, from, nodes);
-                write!(f, "(route {metres} {scans} ({nodes}))")
+            Ok(Done::Closed(lane)) => write!(f, "(closed {lane})"),
+            Ok(Done::Reopened(lane)) => write!(f, "(reopened {lane})"),
+            Ok(Done::Searched { answer, from }) => {
+                let scans = Scans(answer.scanned);
+                match answer.route {
+                    Some(route) => {
+                        let metres = route.cost.metres;
+                        let nodes = nodes_at(self.routes, from, route.nodes);
+                        write!(f, "(route {metres} {scans} ({nodes}))")
+                    }
+                    None => write!(f, "(beyond {scans})"),
+                }
             }
-            Reply::Beyond { counts } => {
-                let scans = Scans(counts);
-                write!(f, "(beyond {scans})")
-            }
-            Reply::Refused(fault) => {
-                let told = of_call(fault_refusal(fault));
+            Err(fault) => {
+                let told = Refused::from(Refusal::from(fault));
                 write!(f, "{told}")
             }
         }

@@ -1,12 +1,11 @@
 -- A shift has exactly the lanes closed that are shut, from one event to the next.
-use Rattle.std.proofs.Common.{◌≡◌, ℕ, ◌<◌, ◌⊎◌, List, [], ◌∷◌, ◌++◌, length, sym, ap, subst, inl, inr, arith}
+use Rattle.std.proofs.Common.{◌≡◌, ℕ, ◌<◌, ◌⊎◌, List, [], ◌∷◌, ◌++◌, length, Ok, Err, sym, ap, subst, inl, inr, arith}
 use Rattle.plant.specs.Closed.{without}
 use Rattle.search.specs.declared.call.Call.{Call}
 use Rattle.search.specs.declared.call.Call.TheVariants.{Close, Reopen}
-use Rattle.search.specs.declared.reply.Reply.{Reply}
-use Rattle.search.specs.declared.reply.Reply.TheVariants.{Closed, Reopened, Route, Beyond, Refused}
+use Rattle.search.specs.declared.reply.Done.TheVariants.{Closed, Reopened, Searched as Told}
 use Rattle.search.specs.Lists.{In}
-use Rattle.search.specs.Calls.{Event, event}
+use Rattle.search.specs.Calls.{Reply, Event, event}
 use Rattle.search.specs.Moment.{Closes, Reopens, Shut}
 use Rattle.search.specs.Life.{Held}
 use Rattle.search.specs.Served.{closed_after}
@@ -21,11 +20,10 @@ held_none {C} = record { exactly = λ n. (λ h. absurd h, λ s. absurd (none n s
 
 -- neither an accepted close nor an accepted reopen
 abbrev pub Mild : {C : Type 0} → Reply C → Type 0
-Mild (Closed n) = ⊥
-Mild (Reopened n) = ⊥
-Mild (Route c n from nodes) = Unit {0}
-Mild (Beyond n) = Unit {0}
-Mild (Refused x) = Unit {0}
+Mild (Ok (Closed n)) = ⊥
+Mild (Ok (Reopened n)) = ⊥
+Mild (Ok (Told a from)) = Unit {0}
+Mild (Err x) = Unit {0}
 
 module _ {C : Type 0} (events : List (Event C)) (closed : List ℕ) (h : Held events closed) where
   held_quiet : (x : Event C) → ((n : ℕ) → Closes x n ⊎ Reopens x n → ⊥) → Held (events ++ x ∷ []) closed
@@ -35,34 +33,33 @@ module _ {C : Type 0} (events : List (Event C)) (closed : List ℕ) (h : Held ev
       back n s = elim (shut_was events x n s) [ inl c ↦ absurd (quiet n (inl c)) | inr (o, p) ↦ (h.exactly n).1 o ]
 
   pub held_mild : (c : Call) (r : Reply C) → Mild r → Held (events ++ event c r ∷ []) (closed_after closed r)
-  held_mild c (Closed n) m = absurd m
-  held_mild c (Reopened n) m = absurd m
-  held_mild c (Route a b d e) m = held_quiet (event c (Route a b d e)) (λ n. elim [ inl (p, q) ↦ (let z : ◌≡◌ {A = ℕ} 0 1 = cc in omega arith) | inr (p, q) ↦ (let z : ◌≡◌ {A = ℕ} 0 1 = cc in omega arith) ])
-  held_mild c (Beyond b) m = held_quiet (event c (Beyond b)) (λ n. elim [ inl (p, q) ↦ (let z : ◌≡◌ {A = ℕ} 0 1 = cc in omega arith) | inr (p, q) ↦ (let z : ◌≡◌ {A = ℕ} 0 1 = cc in omega arith) ])
-  held_mild c (Refused b) m = held_quiet (event c (Refused b)) (λ n. elim [ inl (p, q) ↦ (let z : ◌≡◌ {A = ℕ} 0 1 = cc in omega arith) | inr (p, q) ↦ (let z : ◌≡◌ {A = ℕ} 0 1 = cc in omega arith) ])
+  held_mild c (Ok (Closed n)) m = absurd m
+  held_mild c (Ok (Reopened n)) m = absurd m
+  held_mild c (Ok (Told a from)) m = held_quiet (event c (Ok (Told a from))) (λ n. elim [ inl (p, q) ↦ (let z : ◌≡◌ {A = ℕ} 0 1 = cc in omega arith) | inr (p, q) ↦ (let z : ◌≡◌ {A = ℕ} 0 1 = cc in omega arith) ])
+  held_mild c (Err b) m = held_quiet (event c (Err b)) (λ n. elim [ inl (p, q) ↦ (let z : ◌≡◌ {A = ℕ} 0 1 = cc in omega arith) | inr (p, q) ↦ (let z : ◌≡◌ {A = ℕ} 0 1 = cc in omega arith) ])
 
-  pub held_close : (n : ℕ) → (In n closed → ⊥) → length closed < 64 → Held (events ++ event (Close n) (Closed n) ∷ []) (n ∷ closed)
+  pub held_close : (n : ℕ) → (In n closed → ⊥) → length closed < 64 → Held (events ++ event (Close n) (Ok (Closed n)) ∷ []) (n ∷ closed)
   held_close n fresh room = record { exactly = λ m. (to m, back m); distinct = (fresh, h.distinct); few = omega arith }
     where
       x : Event C
-      x = event (Close n) (Closed n)
+      x = event (Close n) (Ok (Closed n))
 
       touched : (m : ℕ) → Closes x m ⊎ Reopens x m → m ≡ n
       touched m (inl (p, q)) = cc
       touched m (inr (p, q)) = absurd (let z : ◌≡◌ {A = ℕ} 0 1 = cc in omega arith)
 
       to : (m : ℕ) → In m (n ∷ closed) → Shut (events ++ x ∷ []) m
-      to m (inl e) = shut_new events x m (ap Close (sym e), ap Closed (sym e))
+      to m (inl e) = shut_new events x m (ap Close (sym e), ap (λ y. Ok (Closed y)) (sym e))
       to m (inr i) = shut_old events x m ((h.exactly m).0 i) (λ t. fresh (subst (λ y. In y closed) (touched m t) i))
 
       back : (m : ℕ) → Shut (events ++ x ∷ []) m → In m (n ∷ closed)
       back m s = elim (shut_was events x m s) [ inl c ↦ inl (touched m (inl c)) | inr (o, p) ↦ inr ((h.exactly m).1 o) ]
 
-  pub held_reopen : (n : ℕ) → Held (events ++ event (Reopen n) (Reopened n) ∷ []) (without n closed)
+  pub held_reopen : (n : ℕ) → Held (events ++ event (Reopen n) (Ok (Reopened n)) ∷ []) (without n closed)
   held_reopen n = record { exactly = λ m. (to m, back m); distinct = distinct_without n closed h.distinct; few = (let a = length_without n closed in let b = h.few in omega arith) }
     where
       x : Event C
-      x = event (Reopen n) (Reopened n)
+      x = event (Reopen n) (Ok (Reopened n))
 
       touched : (m : ℕ) → Closes x m ⊎ Reopens x m → m ≡ n
       touched m (inl (p, q)) = absurd (let z : ◌≡◌ {A = ℕ} 0 1 = cc in omega arith)
@@ -72,4 +69,4 @@ module _ {C : Type 0} (events : List (Event C)) (closed : List ℕ) (h : Held ev
       to m i = let r = in_without n closed m i in shut_old events x m ((h.exactly m).0 r.0) (λ t. r.1 (touched m t))
 
       back : (m : ℕ) → Shut (events ++ x ∷ []) m → In m (without n closed)
-      back m s = elim (shut_was events x m s) [ inl (p, q) ↦ absurd (let z : ◌≡◌ {A = ℕ} 0 1 = cc in omega arith) | inr (o, p) ↦ without_in n closed m ((h.exactly m).1 o) (λ e. p (ap Reopen (sym e), ap Reopened (sym e))) ]
+      back m s = elim (shut_was events x m s) [ inl (p, q) ↦ absurd (let z : ◌≡◌ {A = ℕ} 0 1 = cc in omega arith) | inr (o, p) ↦ without_in n closed m ((h.exactly m).1 o) (λ e. p (ap Reopen (sym e), ap (λ y. Ok (Reopened y)) (sym e))) ]

@@ -9,9 +9,8 @@ use Rattle.plant.specs.Floor.{Floor, FloorLaws}
 use Rattle.plant.specs.Closed.{among, shut}
 use Rattle.plant.specs.LayerFacts.{shut_none}
 use Rattle.search.specs.declared.call.Call.{Call}
-use Rattle.search.specs.declared.reply.Reply.{Reply}
 use Rattle.search.specs.declared.row.Row.{Row}
-use Rattle.search.specs.Calls.{Event, event, past, taken, Areas}
+use Rattle.search.specs.Calls.{Reply, Event, event, past, taken, Areas}
 use Rattle.search.specs.Life.{ReplyRight, Life, Held}
 use Rattle.search.specs.Served.{Made, made, closed_after, served_from, served, AllMade}
 use Rattle.search.proofs.Events.{taken_more}

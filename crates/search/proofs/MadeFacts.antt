@@ -1,34 +1,38 @@
 -- From what a search or a shift answers to what its call is made as.
-use Rattle.std.proofs.Common.{◌≡◌, ℕ, ◌-◌, ◌≤◌, Bool, true, false, cond, ltb, leb, List, [], ◌++◌, length, take, drop, Some, None, Option, sym, refl, ap, ◌∙◌, subst, append-nil, arith, length-append, length-drop, take-append-drop, drop_of_length-le}
+use Rattle.std.proofs.Common.{◌≡◌, ℕ, ◌-◌, ◌≤◌, Bool, true, false, cond, leb, List, [], ◌++◌, length, take, drop, Some, None, Option, Ok, Err, sym, refl, ap, ◌∙◌, subst, append-nil, arith, length-append, length-drop, take-append-drop, drop_of_length-le}
 use borrow.Rule.Slice.PartMut.{put_mid}
 use Rattle.std.proofs.lemmas.Slice.{between_to_end}
-use Rattle.std.proofs.lemmas.Bool.{ltb-false}
+use Rattle.std.specs.Option.{option_or}
+use Rattle.std.specs.Result.{IsErrAnd}
+use Rattle.std.proofs.lemmas.Result.{err_from_is_err_and}
 use Rattle.cost.specs.Kind.{Kind}
 use Rattle.plant.specs.declared.layers.shift.ShiftFault.{ShiftFault}
 use Rattle.plant.specs.Floor.{Floor}
 use Rattle.plant.specs.Closed.{among, shut}
 use Rattle.plant.specs.Shifted.{close_fault, reopen_fault}
 use Rattle.plant.specs.LayerFacts.{length-shut}
-use Rattle.search.specs.declared.answer.Answer.TheVariants.{Route, Beyond}
+use Rattle.search.specs.declared.answer.Answer.{Answer}
+use Rattle.search.specs.declared.answer.Both.{Both}
+use Rattle.search.specs.declared.answer.Counts.{Counts}
 use Rattle.search.specs.declared.call.Call.{Call}
 use Rattle.search.specs.declared.call.Call.TheVariants.{Close, Reopen, One, Two}
 use Rattle.search.specs.declared.fault.SearchFault.{SearchFault}
 use Rattle.search.specs.declared.fault.SearchFault.TheVariants.{Start, Goal, Rows, Queue, Route as ShortRoute}
+use Rattle.search.specs.declared.reply.CallFault.{CallFault}
 use Rattle.search.specs.declared.reply.CallFault.TheVariants.{Search, Shift}
-use Rattle.search.specs.declared.reply.Reply.{Reply}
-use Rattle.search.specs.declared.reply.Counts.TheVariants.{Forward, Both}
-use Rattle.search.specs.declared.reply.Reply.TheVariants.{Closed, Reopened, Route as Told, Beyond as ToldBeyond, Refused}
-use Rattle.search.specs.declared.answer.AnswerBoth.TheVariants.{Route as RouteTwo, Beyond as BeyondTwo}
+use Rattle.search.specs.declared.reply.Done.TheVariants.{Closed, Reopened, Searched as Told}
 use Rattle.search.specs.declared.row.Row.{Row}
 use Rattle.search.specs.Lists.{onto, onto_at}
 use Rattle.search.specs.Steps.{count_scanned}
 use Rattle.search.specs.OneWay.{one_way, one_route}
 use Rattle.search.specs.TwoWay.{two_way, two_route}
-use Rattle.search.specs.Searched.{fault_of, one_answer}
-use Rattle.search.specs.SearchedBoth.{two_fault, two_answer}
-use Rattle.search.specs.Calls.{nodes_told, Areas}
+use Rattle.search.specs.Faults.{node_fault, room_fault, search_fault}
+use Rattle.search.specs.Searched.{answer_of, count_told, fault_of, one_answer}
+use Rattle.search.specs.SearchedBoth.{both_scanned, two_fault, two_answer}
+use Rattle.search.specs.Calls.{Reply, nodes_told, Areas}
 use Rattle.search.specs.Life.{counts_of, rows_backward, too_short}
-use Rattle.search.specs.Served.{Made, plain, unless_shift, unless_search, answer, one_told, two_told, search_fault, made, Makes, closed_after}
+use Rattle.search.proofs.FaultFacts.{room_in, both_none}
+use Rattle.search.specs.Served.{Made, plain, unless_shift, unless_search, answer, made, Makes, closed_after}
 
 -- a write to the end of a list, from `at` on
 put_end : (at : ℕ) (old part nodes : List ℕ) → part ≡ onto nodes (take (length old - at) (drop at old)) → put_mid at (length old - at) old part ≡ onto_at at nodes old
@@ -44,6 +48,10 @@ fits_onto nodes part e = let a = length-append nodes (drop (length nodes) part) 
 put_none : (at : ℕ) (old : List ℕ) → old ≡ onto_at at [] old
 put_none at old = sym (take-append-drop at old)
 
+-- a reply that refuses for x
+pub refused : {C : Type 0} (r : Reply C) (x : CallFault) → IsErrAnd r (λ y. y ≡ x) → r ≡ Err x
+refused r x h = let (y, is, same) = err_from_is_err_and r h in is ∙ ap Err same
+
 module _ {C : Type 0} (at : ℕ) (rows rows' back back' : List (Row C)) (routes : List ℕ) (le : at ≤ length routes) where
   -- a call on the shift alone
   module _ (fault : Option ShiftFault) (r : Reply C) where
@@ -53,8 +61,8 @@ module _ {C : Type 0} (at : ℕ) (rows rows' back back' : List (Row C)) (routes 
     pub shift_accepts : None ≡ fault → Makes (unless_shift fault (plain r)) at r rows rows back back routes routes
     shift_accepts e = subst (λ (z : Option ShiftFault). Makes (unless_shift z (plain r)) at r rows rows back back routes routes) e (made_plain r)
 
-    pub shift_refuses : (x : ShiftFault) → Some x ≡ fault → Makes (unless_shift fault (plain r)) at (Refused (Shift x)) rows rows back back routes routes
-    shift_refuses x e = subst (λ (z : Option ShiftFault). Makes (unless_shift z (plain r)) at (Refused (Shift x)) rows rows back back routes routes) e (made_plain (Refused (Shift x)))
+    pub shift_refuses : (x : ShiftFault) → Some x ≡ fault → (q : Reply C) → IsErrAnd q (λ y. y ≡ Shift x) → Makes (unless_shift fault (plain r)) at q rows rows back back routes routes
+    shift_refuses x e q is = subst (λ (z : Option ShiftFault). Makes (unless_shift z (plain r)) at q rows rows back back routes routes) e (subst (λ (y : Reply C). Makes (plain (Err (Shift x))) at y rows rows back back routes routes) (sym (refused q (Shift x) is)) (made_plain (Err (Shift x))))
 
   -- a search, whose route is written into the part of the list that is left
   module _ (fault : Option SearchFault) (m : Made C) (part : List ℕ) where
@@ -71,74 +79,61 @@ module _ {C : Type 0} (at : ℕ) (rows rows' back back' : List (Row C)) (routes 
         let made_so : Makes m at r rows rows' back back' routes After = record { reply_is = q; rows_are = near; back_are = far; routes_are = put_end at routes part m.nodes w; fits = omega (arith, few, ap length whole, length-drop at routes, le) } in
         subst (λ (z : Option SearchFault). Makes (unless_search z m) at r rows rows' back back' routes After) e made_so
 
-    pub search_refuses : (x : SearchFault) → Some x ≡ fault → rows' ≡ rows → back' ≡ back → part ≡ Left → Makes (unless_search fault m) at (Refused (Search x)) rows rows' back back' routes After
-    search_refuses x e near far w =
-        let made_so : Makes (plain (Refused (Search x))) at (Refused (Search x)) rows rows' back back' routes After = record { reply_is = refl; rows_are = near; back_are = far; routes_are = put_end at routes part [] w; fits = omega arith } in
-        subst (λ (z : Option SearchFault). Makes (unless_search z m) at (Refused (Search x)) rows rows' back back' routes After) e made_so
+    pub search_refuses : (x : SearchFault) → Some x ≡ fault → (q : Reply C) → IsErrAnd q (λ y. y ≡ Search x) → rows' ≡ rows → back' ≡ back → part ≡ Left → Makes (unless_search fault m) at q rows rows' back back' routes After
+    search_refuses x e q is near far w =
+        let made_so : Makes (plain (Err (Search x))) at q rows rows' back back' routes After = record { reply_is = refused q (Search x) is; rows_are = near; back_are = far; routes_are = put_end at routes part [] w; fits = omega arith } in
+        subst (λ (z : Option SearchFault). Makes (unless_search z m) at q rows rows' back back' routes After) e made_so
 
 -- a search that is not refused has rows enough
-pub enough_rows : {C : Type 0} (f : Floor C) (s t n : ℕ) (more : Option SearchFault) → None ≡ search_fault f s t (cond (ltb n f.nodes) (Some Rows) more) → f.nodes ≤ n
-enough_rows f s t n more e = go (ltb s f.nodes) (ltb t f.nodes) (ltb n f.nodes) refl e
-  where
-    go : (a b c : Bool) → ltb n f.nodes ≡ c → None ≡ cond a (cond b (cond c (Some Rows) more) (Some (Goal t))) (Some (Start s)) → f.nodes ≤ n
-    go false b c q h = absurd (let z : ◌≡◌ {A = ℕ} 0 1 = cc in omega arith)
-    go true false c q h = absurd (let z : ◌≡◌ {A = ℕ} 0 1 = cc in omega arith)
-    go true true true q h = absurd (let z : ◌≡◌ {A = ℕ} 0 1 = cc in omega arith)
-    go true true false q h = ltb-false _ _ q
+unrefused : {C : Type 0} (f : Floor C) (s t : ℕ) (short : Option SearchFault) → None ≡ search_fault f s t short → None ≡ short
+unrefused f s t short e = (both_none (node_fault f t (Goal t)) short (both_none (node_fault f s (Start s)) (option_or (node_fault f t (Goal t)) short) e).1).1
 
-pub enough_back : {C : Type 0} (f : Floor C) (s t n b : ℕ) (more : Option SearchFault) → None ≡ search_fault f s t (cond (ltb n f.nodes) (Some Rows) (cond (ltb b f.nodes) (Some Rows) more)) → f.nodes ≤ b
-enough_back f s t n b more e = go (ltb n f.nodes) e
-  where
-    go : (c : Bool) → None ≡ search_fault f s t (cond c (Some Rows) (cond (ltb b f.nodes) (Some Rows) more)) → f.nodes ≤ b
-    go true h = absurd (never (ltb s f.nodes) (ltb t f.nodes) h)
-      where
-        never : (x y : Bool) → None ≡ cond x (cond y (Some Rows) (Some (Goal t))) (Some (Start s)) → ⊥
-        never false y q = let z : ◌≡◌ {A = ℕ} 0 1 = cc in omega arith
-        never true false q = let z : ◌≡◌ {A = ℕ} 0 1 = cc in omega arith
-        never true true q = let z : ◌≡◌ {A = ℕ} 0 1 = cc in omega arith
-    go false h = enough_rows f s t b more h
+pub enough_rows : {C : Type 0} (f : Floor C) (s t n : ℕ) (more : Option SearchFault) → None ≡ search_fault f s t (option_or (room_fault f n Rows) more) → f.nodes ≤ n
+enough_rows f s t n more e = let rows = room_fault f n Rows in room_in f n Rows (both_none rows more (unrefused f s t (option_or rows more) e)).0
+
+pub enough_back : {C : Type 0} (f : Floor C) (s t n b : ℕ) (more : Option SearchFault) → None ≡ search_fault f s t (option_or (room_fault f n Rows) (option_or (room_fault f b Rows) more)) → f.nodes ≤ b
+enough_back f s t n b more e =
+    let rows = room_fault f n Rows in
+    let back = option_or (room_fault f b Rows) more in
+    room_in f b Rows (both_none (room_fault f b Rows) more (both_none rows back (unrefused f s t (option_or rows back) e)).1).0
 
 module _ {C : Type 0} (k : Kind C) (f : Floor C) (closed : List ℕ) (s t : ℕ) where
   abbrev F : Floor C
   F = shut k (among closed) f
 
   pub one_fault : (a : Areas) (left p : ℕ) → p ≡ left → fault_of F s t a.rows a.entries p ≡ search_fault f s t (too_short f a left (One s t))
-  one_fault a left p e = λ i. search_fault f s t (cond (ltb a.rows f.nodes) (Some Rows) (cond (leb a.entries (length-shut k.beyond (among closed) f.lanes i)) (Some Queue) (cond (ltb (e i) f.nodes) (Some ShortRoute) None)))
+  one_fault a left p e =
+      let long = length-shut k.beyond (among closed) f.lanes in
+      λ i. search_fault f s t (option_or (room_fault f a.rows Rows) (option_or (cond (leb a.entries (long i)) (Some Queue) None) (room_fault f (e i) ShortRoute)))
 
   pub two_fault_is : (a : Areas) (left p : ℕ) → p ≡ left → two_fault F s t a.rows a.back_rows a.entries a.back_entries p ≡ search_fault f s t (too_short f a left (Two s t))
   two_fault_is a left p e =
       let long = length-shut k.beyond (among closed) f.lanes in
-      λ i. search_fault f s t (cond (ltb a.rows f.nodes) (Some Rows) (cond (ltb a.back_rows f.nodes) (Some Rows) (cond (leb a.entries (long i)) (Some Queue) (cond (leb a.back_entries (long i)) (Some Queue) (cond (ltb (e i) f.nodes) (Some ShortRoute) None)))))
+      λ i. search_fault f s t (option_or (room_fault f a.rows Rows) (option_or (room_fault f a.back_rows Rows) (option_or (cond (leb a.entries (long i)) (Some Queue) None) (option_or (cond (leb a.back_entries (long i)) (Some Queue) None) (room_fault f (e i) ShortRoute)))))
 
-  pub one_replied : (at : ℕ) → one_told at (one_answer k F s t) ≡ (answer k F at (One s t) (one_way k F s t).cost (one_route k F s t)).reply
-  one_replied at = go (k.at_most k.beyond (one_way k F s t).cost) (one_way k F s t).cost (count_scanned (one_way k F s t).rows) (length (one_route k F s t))
-    where
-      go : (b : Bool) (c : C) (n m : ℕ) → one_told at (cond b (Beyond n) (Route c n m)) ≡ cond b (ToldBeyond (Forward n)) (Told c (Forward n) at m)
-      go true c n m = refl
-      go false c n m = refl
+  -- an answer with its counts told is the reply
+  replied : {N : Type 0} (call : Call) (n : N) (c : C) (nodes : List ℕ) (at : ℕ) (told : N → Counts) → told n ≡ counts_of k F call → (a : Answer C N) (r : Answer C Counts) → a ≡ answer_of k n c nodes → r.scanned ≡ told a.scanned → r.route ≡ a.route
+      → Ok (Told r at) ≡ (answer k F at call c nodes).reply
+  replied {N} call n c nodes at told counts a r e p q =
+      λ i. Ok (Told (record { scanned = (p ∙ ap (λ (x : Answer C N). told x.scanned) e ∙ counts) i; route = (q ∙ ap (λ (x : Answer C N). x.route) e) i }) at)
 
-  pub two_replied : (at : ℕ) → two_told at (two_answer k F s t) ≡ (answer k F at (Two s t) (two_way k F s t).met.cost (two_route k F s t)).reply
-  two_replied at = go (k.at_most k.beyond (two_way k F s t).met.cost) (two_way k F s t).met.cost (count_scanned (two_way k F s t).near.rows) (count_scanned (two_way k F s t).far.rows) (length (two_route k F s t))
-    where
-      go : (b : Bool) (c : C) (n p m : ℕ) → two_told at (cond b (BeyondTwo n p) (RouteTwo c n p m)) ≡ cond b (ToldBeyond (Both n p)) (Told c (Both n p) at m)
-      go true c n p m = refl
-      go false c n p m = refl
+  pub one_replied : (at : ℕ) (a : Answer C ℕ) (r : Answer C Counts) → a ≡ one_answer k F s t → r.scanned ≡ record { forward = a.scanned; back = None } → r.route ≡ a.route → Ok (Told r at) ≡ (answer k F at (One s t) (one_way k F s t).cost (one_route k F s t)).reply
+  one_replied at = replied (One s t) (count_scanned (one_way k F s t).rows) (one_way k F s t).cost (one_route k F s t) at (λ n. record { forward = n; back = None }) refl
+
+  pub two_replied : (at : ℕ) (a : Answer C Both) (r : Answer C Counts) → a ≡ two_answer k F s t → r.scanned ≡ record { forward = a.scanned.forward; back = Some a.scanned.back } → r.route ≡ a.route → Ok (Told r at) ≡ (answer k F at (Two s t) (two_way k F s t).met.cost (two_route k F s t)).reply
+  two_replied at = replied (Two s t) (both_scanned k F s t) (two_way k F s t).met.cost (two_route k F s t) at (λ n. record { forward = n.forward; back = Some n.back }) refl
 
 module _ {C : Type 0} (k : Kind C) (F : Floor C) (at : ℕ) (call : Call) (c : C) (nodes : List ℕ) where
   -- a search leaves the closed lanes as they are
   pub search_keeps : (closed : List ℕ) (fault : Option SearchFault) → closed_after closed (unless_search fault (answer k F at call c nodes)).reply ≡ closed
   search_keeps closed (Some x) = refl
-  search_keeps closed None = go (k.at_most k.beyond c)
-    where
-      go : (b : Bool) → closed_after closed (cond b (ToldBeyond (counts_of k F call)) (Told c (counts_of k F call) at (length nodes))) ≡ closed
-      go true = refl
-      go false = refl
+  search_keeps closed None = refl
 
   search_told : (fault : Option SearchFault) → nodes_told (unless_search fault (answer k F at call c nodes)).reply ≡ length (unless_search fault (answer k F at call c nodes)).nodes
   search_told (Some x) = refl
   search_told None = go (k.at_most k.beyond c)
     where
-      go : (b : Bool) → nodes_told {C = C} (cond b (ToldBeyond (counts_of k F call)) (Told c (counts_of k F call) at (length nodes))) ≡ length (cond b [] nodes)
+      go : (b : Bool) → count_told {C = C} (cond b None (Some (record { cost = c; nodes = length nodes }))) ≡ length (cond b [] nodes)
       go true = refl
       go false = refl
 
@@ -152,8 +147,8 @@ shift_told None r e = e
 
 -- a reply tells as many nodes as are written for it
 pub made_told : {C : Type 0} (k : Kind C) (f : Floor C) (a : Areas) (closed : List ℕ) (at : ℕ) (call : Call) → nodes_told (made k f a closed at call).reply ≡ length (made k f a closed at call).nodes
-made_told k f a closed at (Close n) = shift_told (close_fault (length f.lanes) closed n) (Closed n) refl
-made_told k f a closed at (Reopen n) = shift_told (reopen_fault (length f.lanes) closed n) (Reopened n) refl
+made_told k f a closed at (Close n) = shift_told (close_fault (length f.lanes) closed n) (Ok (Closed n)) refl
+made_told k f a closed at (Reopen n) = shift_told (reopen_fault (length f.lanes) closed n) (Ok (Reopened n)) refl
 made_told k f a closed at (One s t) = let F = shut k (among closed) f in search_told k F at (One s t) (one_way k F s t).cost (one_route k F s t) (search_fault f s t (too_short f a (a.places - at) (One s t)))
 made_told k f a closed at (Two s t) = let F = shut k (among closed) f in search_told k F at (Two s t) (two_way k F s t).met.cost (two_route k F s t) (search_fault f s t (too_short f a (a.places - at) (Two s t)))
 

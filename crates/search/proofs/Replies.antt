@@ -1,6 +1,7 @@
 -- Each reply of a shift is right, and leaves the shift with exactly the shut lanes closed.
-use Rattle.std.proofs.Common.{◌≡◌, ℕ, ◌-◌, ◌<◌, Bool, true, false, cond, ltb, List, [], ◌∷◌, ◌++◌, length, take, drop, Some, None, Option, sym, refl, ◌∙◌, subst, arith}
+use Rattle.std.proofs.Common.{◌≡◌, ℕ, ◌-◌, ◌<◌, Bool, true, false, cond, ltb, List, [], ◌∷◌, ◌++◌, length, take, drop, Some, None, Option, Ok, Err, sym, refl, ◌∙◌, subst, arith}
 use Rattle.std.proofs.lemmas.Bool.{both_ways, ltb-true, ltb-false}
+use Rattle.std.specs.Option.{option_or}
 use Rattle.cost.specs.Kind.{Kind, Laws}
 use Rattle.plant.specs.declared.layers.shift.ShiftFault.TheVariants.{NoLane, Closed as closed_already, Full as closed_64, Open as not_closed}
 use Rattle.plant.specs.Floor.{Floor, FloorLaws}
@@ -11,7 +12,7 @@ use Rattle.search.specs.declared.call.Call.TheVariants.{Close, Reopen, One, Two}
 use Rattle.search.specs.declared.fault.SearchFault.{SearchFault}
 use Rattle.search.specs.declared.fault.SearchFault.TheVariants.{Start, Goal}
 use Rattle.search.specs.declared.reply.CallFault.TheVariants.{Search, Shift}
-use Rattle.search.specs.declared.reply.Reply.TheVariants.{Closed, Reopened, Route, Beyond, Refused}
+use Rattle.search.specs.declared.reply.Done.TheVariants.{Closed, Reopened, Searched as Told}
 use Rattle.search.specs.declared.row.State.TheVariants.{Scanned, Blank}
 use Rattle.search.specs.Lists.{In}
 use Rattle.search.specs.OneWay.{one_way, one_route}
@@ -21,6 +22,7 @@ use Rattle.search.specs.Calls.{Event, event, taken, Areas}
 use Rattle.search.specs.Moment.{Shut}
 use Rattle.search.specs.Life.{counts_of, rows_forward, rows_backward, CloseRight, ReopenRight, by_route, by_none, OpenRoute, Answered, SearchRight, ReplyRight, too_short, Held}
 use Rattle.search.specs.Served.{Made, plain, unless_shift, unless_search, answer, made, closed_after}
+use Rattle.search.proofs.AnswerFacts.{route_when}
 use Rattle.search.proofs.Answers.{one_way_right}
 use Rattle.search.proofs.Held.{Mild, held_mild, held_close, held_reopen}
 use Rattle.search.proofs.Moments.{shut_cost, over_beyond, moment}
@@ -45,12 +47,12 @@ module _ {C : Type 0} {k : Kind C} (laws : Laws k) {f : Floor C} (fl : FloorLaws
   step_close n = go (ltb n (length f.lanes)) refl (among closed n) refl (ltb (length closed) 64) refl
     where
       go : (a : Bool) → ltb n (length f.lanes) ≡ a → (b : Bool) → among closed n ≡ b → (c : Bool) → ltb (length closed) 64 ≡ c →
-          Stepped (Close n) (unless_shift (cond a (cond b (Some (closed_already n)) (cond c None (Some (closed_64 n)))) (Some (NoLane n))) (plain (Closed n)))
-      go false p b q c r = record { right = λ _ _. CloseRight.lane_missing (ltb-false _ _ p) refl; next = held_mild events closed h (Close n) (Refused (Shift (NoLane n))) tt }
-      go true p true q c r = record { right = λ _ _. CloseRight.lane_shut (ltb-true _ _ p) ((h.exactly n).0 (among_in closed n q)) refl; next = held_mild events closed h (Close n) (Refused (Shift (closed_already n))) tt }
+          Stepped (Close n) (unless_shift (cond a (cond b (Some (closed_already n)) (cond c None (Some (closed_64 n)))) (Some (NoLane n))) (plain (Ok (Closed n))))
+      go false p b q c r = record { right = λ _ _. CloseRight.lane_missing (ltb-false _ _ p) refl; next = held_mild events closed h (Close n) (Err (Shift (NoLane n))) tt }
+      go true p true q c r = record { right = λ _ _. CloseRight.lane_shut (ltb-true _ _ p) ((h.exactly n).0 (among_in closed n q)) refl; next = held_mild events closed h (Close n) (Err (Shift (closed_already n))) tt }
       go true p false q false r = record {
         right = λ _ _. CloseRight.shift_full (ltb-true _ _ p) (unshut n q) (record { lanes = closed; distinct = h.distinct; each = λ m. (h.exactly m).0; full = (let x = ltb-false (length closed) 64 r in let y = h.few in omega arith) }) refl;
-        next = held_mild events closed h (Close n) (Refused (Shift (closed_64 n))) tt;
+        next = held_mild events closed h (Close n) (Err (Shift (closed_64 n))) tt;
       }
       go true p false q true r = record {
         right = λ _ _. CloseRight.accepted (ltb-true _ _ p) (unshut n q) (record { lanes = closed; all = λ m. (h.exactly m).1; few = ltb-true (length closed) 64 r }) refl;
@@ -61,9 +63,9 @@ module _ {C : Type 0} {k : Kind C} (laws : Laws k) {f : Floor C} (fl : FloorLaws
   step_reopen n = go (ltb n (length f.lanes)) refl (among closed n) refl
     where
       go : (a : Bool) → ltb n (length f.lanes) ≡ a → (b : Bool) → among closed n ≡ b →
-          Stepped (Reopen n) (unless_shift (cond a (cond b None (Some (not_closed n))) (Some (NoLane n))) (plain (Reopened n)))
-      go false p b q = record { right = λ _ _. ReopenRight.lane_missing (ltb-false _ _ p) refl; next = held_mild events closed h (Reopen n) (Refused (Shift (NoLane n))) tt }
-      go true p false q = record { right = λ _ _. ReopenRight.lane_open (ltb-true _ _ p) (unshut n q) refl; next = held_mild events closed h (Reopen n) (Refused (Shift (not_closed n))) tt }
+          Stepped (Reopen n) (unless_shift (cond a (cond b None (Some (not_closed n))) (Some (NoLane n))) (plain (Ok (Reopened n))))
+      go false p b q = record { right = λ _ _. ReopenRight.lane_missing (ltb-false _ _ p) refl; next = held_mild events closed h (Reopen n) (Err (Shift (NoLane n))) tt }
+      go true p false q = record { right = λ _ _. ReopenRight.lane_open (ltb-true _ _ p) (unshut n q) refl; next = held_mild events closed h (Reopen n) (Err (Shift (not_closed n))) tt }
       go true p true q = record { right = λ _ _. ReopenRight.accepted (ltb-true _ _ p) ((h.exactly n).0 (among_in closed n q)) refl; next = held_reopen events closed h n }
 
   abbrev F : Floor C
@@ -82,10 +84,10 @@ module _ {C : Type 0} {k : Kind C} (laws : Laws k) {f : Floor C} (fl : FloorLaws
         let r = (facts s-in t-in).right.route real in
         real (sym r.costs ∙ over_beyond k laws F r.lanes n i (shut_cost k (among closed) f.lanes n (in_among closed n ((h.exactly n).1 x))))
 
-    replied : (b : Bool) → k.at_most k.beyond c ≡ b → Replied (record { reply = cond b (Beyond (counts_of k F call)) (Route c (counts_of k F call) (taken events) (length nodes)); nodes = cond b [] nodes; near = rows_forward k F call; far = rows_backward k F call })
+    replied : (b : Bool) → k.at_most k.beyond c ≡ b → Replied (record { reply = Ok (Told (record { scanned = counts_of k F call; route = route_when c nodes b }) (taken events)); nodes = cond b [] nodes; near = rows_forward k F call; far = rows_backward k F call })
     replied true e = record { right = right; mild = tt }
       where
-        right : (routes : List ℕ) → Written [] routes → s < f.nodes → t < f.nodes → Answered k F events routes call s t (Beyond (counts_of k F call))
+        right : (routes : List ℕ) → Written [] routes → s < f.nodes → t < f.nodes → Answered k F events routes call s t (Ok (Told (record { scanned = counts_of k F call; route = None }) (taken events)))
         right routes w s-in t-in =
             let r = facts s-in t-in in
             record { cost = c; shown = by_none (is_beyond k laws c e) refl; optimal = r.right.optimal; beyond = r.right.beyond; scans_forward = r.right.scans; scans_backward = r.scans_back }
@@ -94,7 +96,7 @@ module _ {C : Type 0} {k : Kind C} (laws : Laws k) {f : Floor C} (fl : FloorLaws
         real : c ≡ k.beyond → ⊥
         real q = both_ways _ e (subst (λ x. k.at_most k.beyond x ≡ true) (sym q) (laws.beyond_greatest k.beyond))
 
-        right : (routes : List ℕ) → Written nodes routes → s < f.nodes → t < f.nodes → Answered k F events routes call s t (Route c (counts_of k F call) (taken events) (length nodes))
+        right : (routes : List ℕ) → Written nodes routes → s < f.nodes → t < f.nodes → Answered k F events routes call s t (Ok (Told (record { scanned = counts_of k F call; route = Some (record { cost = c; nodes = length nodes }) }) (taken events)))
         right routes w s-in t-in =
             let r = facts s-in t-in in
             record {
@@ -111,10 +113,10 @@ module _ {C : Type 0} {k : Kind C} (laws : Laws k) {f : Floor C} (fl : FloorLaws
       next : Held (events ++ event call m.reply ∷ []) (closed_after closed m.reply)
 
     searched : (a : Bool) → ltb s f.nodes ≡ a → (b : Bool) → ltb t f.nodes ≡ b → (short : Option SearchFault) →
-        Searched short (unless_search (cond a (cond b short (Some (Goal t))) (Some (Start s))) (answer k F (taken events) call c nodes))
-    searched false p b q short = record { right = λ _ _. SearchRight.start_missing (ltb-false _ _ p) refl; next = held_mild events closed h call (Refused (Search (Start s))) tt }
-    searched true p false q short = record { right = λ _ _. SearchRight.goal_missing (ltb-true _ _ p) (ltb-false _ _ q) refl; next = held_mild events closed h call (Refused (Search (Goal t))) tt }
-    searched true p true q (Some x) = record { right = λ _ _. SearchRight.area_short (ltb-true _ _ p) (ltb-true _ _ q) x refl refl; next = held_mild events closed h call (Refused (Search x)) tt }
+        Searched short (unless_search (option_or (cond a None (Some (Start s))) (option_or (cond b None (Some (Goal t))) short)) (answer k F (taken events) call c nodes))
+    searched false p b q short = record { right = λ _ _. SearchRight.start_missing (ltb-false _ _ p) refl; next = held_mild events closed h call (Err (Search (Start s))) tt }
+    searched true p false q short = record { right = λ _ _. SearchRight.goal_missing (ltb-true _ _ p) (ltb-false _ _ q) refl; next = held_mild events closed h call (Err (Search (Goal t))) tt }
+    searched true p true q (Some x) = record { right = λ _ _. SearchRight.area_short (ltb-true _ _ p) (ltb-true _ _ q) x refl refl; next = held_mild events closed h call (Err (Search x)) tt }
     searched true p true q None =
         let r = replied (k.at_most k.beyond c) refl in
         record {

@@ -1,12 +1,13 @@
 -- How many rows are open, and how many are scanned.
-use Rattle.std.proofs.Common.{◌≡◌, ℕ, zero, suc, ◌+◌, ◌<◌, ◌≤◌, Bool, true, false, cond, List, [], ◌∷◌, length, drop, set, Some, refl, ap, ◌∙◌, arith}
+use Rattle.std.proofs.Common.{◌≡◌, ℕ, zero, suc, ◌+◌, ◌<◌, ◌≤◌, Bool, true, false, cond, List, [], ◌∷◌, length, drop, set, Some, sym, refl, ap, ◌∙◌, one-add, arith}
 use Rattle.std.specs.List.{slice_get}
+use Rattle.std.specs.List.{count_by}
 use Rattle.std.proofs.lemmas.Bool.{cond_both}
+use Rattle.std.proofs.lemmas.List.Recursion.{is_count_by}
 use Rattle.cost.specs.Kind.{Kind}
 use Rattle.search.specs.declared.row.Row.{Row}
 use Rattle.search.specs.Rows.{is_open, is_scanned, blank_rows, row_at}
 use Rattle.search.specs.Steps.{count_scanned}
-use Rattle.search.proofs.OutFacts.{drop_nth}
 
 -- how many rows are open
 abbrev pub count_open : {C : Type 0} → List (Row C) → ℕ
@@ -78,5 +79,6 @@ module _ {C : Type 0} (k : Kind C) where
   count_same (x ∷ xs) (y ∷ ys) l h = let r = count_same xs ys (omega arith) (λ v. h (suc v)) in let e = h 0 in ap (λ t. cond t (suc (count_scanned xs)) (count_scanned xs)) e ∙ ap (λ n. cond (is_scanned y.state) (suc n) n) r
 
 -- the rows from i on have the count of those after it, and one more where the row of i is scanned
-pub count_drop : {C : Type 0} (rows : List (Row C)) (i : ℕ) (x : Row C) → slice_get rows i ≡ Some x → count_scanned (drop i rows) ≡ cond (is_scanned x.state) (suc (count_scanned (drop (i + 1) rows))) (count_scanned (drop (i + 1) rows))
-count_drop {C} rows i x e = ap (λ (xs : List (Row C)). count_scanned xs) (drop_nth rows i (i + 1) x (omega arith) e)
+
+pub count_scanned_by : {C : Type 0} (rows : List (Row C)) → count_scanned rows ≡ count_by (λ r. is_scanned r.state) rows
+count_scanned_by {C} rows = is_count_by (λ (xs : List (Row C)). count_scanned xs) (λ r. is_scanned r.state) refl (λ x xs. ap (λ n. cond (is_scanned x.state) n (count_scanned xs)) (sym (one-add (count_scanned xs)))) rows

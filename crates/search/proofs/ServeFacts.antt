@@ -5,10 +5,9 @@ use Rattle.std.proofs.lemmas.List.{drop-drop, drop-set-lt, length-take-le, take_
 use Rattle.cost.specs.Kind.{Kind}
 use Rattle.plant.specs.Floor.{Floor}
 use Rattle.search.specs.declared.call.Call.{Call}
-use Rattle.search.specs.declared.reply.Reply.{Reply}
 use Rattle.search.specs.declared.row.Row.{Row}
 use Rattle.search.specs.Lists.{onto}
-use Rattle.search.specs.Calls.{nodes_told, Areas}
+use Rattle.search.specs.Calls.{Reply, nodes_told, Areas}
 use Rattle.search.specs.Served.{Made, Makes, made, closed_after, then_served, Served, served_from}
 use Rattle.search.specs.Serving.{Serving}
 use Rattle.search.proofs.AnswerFacts.{written}

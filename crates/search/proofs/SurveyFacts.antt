@@ -8,8 +8,6 @@ use Rattle.plant.specs.Floor.{Floor, FloorLaws, blinded}
 use Rattle.plant.specs.Walk.{Least}
 use Rattle.plant.specs.FloorFacts.{blinded_laws}
 use Rattle.search.specs.declared.entry.Entry.{Entry}
-use Rattle.search.specs.declared.fault.SearchFault.{SearchFault}
-use Rattle.search.specs.declared.fault.SearchFault.TheVariants.{Start, Rows, Queue, Costs}
 use Rattle.search.specs.declared.row.Row.{Row}
 use Rattle.search.specs.declared.row.State.TheVariants.{Labelled}
 use Rattle.search.specs.Lists.{onto}
@@ -17,7 +15,7 @@ use Rattle.search.specs.OneWay.{Found, one_from, one_way}
 use Rattle.search.specs.Rows.{is_labelled, row_at, row_or}
 use Rattle.search.specs.Steps.{key_of, first_of, pick_from, pick, in_reach, scan, start_rows, label_of}
 use Rattle.search.specs.Survey.{survey_from, survey}
-use Rattle.search.specs.Surveyed.{survey_fault, CostsLeast}
+use Rattle.search.specs.Surveyed.{CostsLeast}
 use Rattle.search.proofs.LeastCosts.{survey_right}
 use Rattle.search.proofs.PickFacts.{one_none, one_step}
 use Rattle.search.proofs.Picks.{First, Picked, picked_from}
@@ -80,12 +78,3 @@ module _ {C : Type 0} (k : Kind C) (laws : Laws k) (f : Floor C) (fl : FloorLaws
     pub costs_least : (costs : List C) → length (survey k f start) ≡ f.nodes → CostsLeast k f start (onto (map label_of (survey k f start)) costs)
     costs_least costs long v c v-in e =
         subst (Least k f start v) (label_there k (survey k f start) (drop (length (map label_of (survey k f start))) costs) v c (omega (arith, v-in, long)) e) ((survey_right laws fl start-in).labels v)
-
-pub no_survey_fault : {C : Type 0} (f : Floor C) (start rows entries costs : ℕ) → start < f.nodes → f.nodes ≤ rows → length f.lanes < entries → f.nodes ≤ costs → None ≡ survey_fault f start rows entries costs
-no_survey_fault f start rows entries costs a b c d =
-    let last : Option SearchFault = cond (ltb costs f.nodes) (Some Costs) None in
-    let rest : Option SearchFault = cond (leb entries (length f.lanes)) (Some Queue) last in
-    sym (cond-true (ltb start f.nodes) (cond (ltb rows f.nodes) (Some Rows) rest) (Some (Start start)) (lt-ltb start f.nodes a)
-    ∙ cond-false (ltb rows f.nodes) (Some Rows) rest (le-ltb rows f.nodes b)
-    ∙ cond-false (leb entries (length f.lanes)) (Some Queue) last (lt-leb entries (length f.lanes) c)
-    ∙ cond-false (ltb costs f.nodes) (Some Costs) None (le-ltb costs f.nodes d))

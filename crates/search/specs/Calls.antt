@@ -1,8 +1,14 @@
 -- Calls with their replies: the past of a shift, the work areas lent to it, and the places that routes have taken.
-use Rattle.std.specs.Prelude.{ℕ, zero, suc, ◌+◌, List, [], ◌∷◌}
+use Rattle.std.specs.Prelude.{ℕ, zero, suc, ◌+◌, List, [], ◌∷◌, Result, Ok, Err}
 use Rattle.search.specs.declared.call.Call.{Call}
-use Rattle.search.specs.declared.reply.Reply.{Reply}
-use Rattle.search.specs.declared.reply.Reply.TheVariants.{Closed, Reopened, Route, Beyond, Refused}
+use Rattle.search.specs.declared.reply.CallFault.{CallFault}
+use Rattle.search.specs.declared.reply.Done.{Done}
+use Rattle.search.specs.declared.reply.Done.TheVariants.{Closed, Reopened, Searched as Told}
+use Rattle.search.specs.Searched.{node_count_of}
+
+-- what a call has done, or why it is refused
+abbrev pub Reply : Type 0 → Type 0
+Reply C = Result (Done C) CallFault
 
 -- a call and the reply to it
 pub record Event (C : Type 0) : Type 0 where
@@ -21,11 +27,10 @@ past (c ∷ calls) (r ∷ replies) (suc i) = event c r ∷ past calls replies i
 
 -- how many nodes of a route the reply tells
 abbrev pub nodes_told : {C : Type 0} → Reply C → ℕ
-nodes_told (Closed n) = 0
-nodes_told (Reopened n) = 0
-nodes_told (Route cost counts from nodes) = nodes
-nodes_told (Beyond counts) = 0
-nodes_told (Refused x) = 0
+nodes_told (Ok (Closed n)) = 0
+nodes_told (Ok (Reopened n)) = 0
+nodes_told (Ok (Told a from)) = node_count_of a
+nodes_told (Err x) = 0
 
 -- how many places of the list of routes are taken
 abbrev pub taken : {C : Type 0} → List (Event C) → ℕ

@@ -8,6 +8,7 @@ pub mod Answer
 pub mod Ties
 pub mod Turns
 pub mod Told
+pub mod Faults
 pub mod Searched
 pub mod SearchedBoth
 pub mod Surveyed

@@ -1,5 +1,5 @@
 -- The life of a shift: what the reply to each of its calls is held to, in the words of calls, walks and costs.
-use Rattle.std.specs.Prelude.{◌≡◌, ℕ, ◌-◌, ◌<◌, ◌≤◌, cond, ◌↔◌, List, [], length, take, drop, Some, None, Option, ◌≢◌, nat_le, nat_lt}
+use Rattle.std.specs.Prelude.{◌≡◌, ℕ, ◌-◌, ◌<◌, ◌≤◌, ◌↔◌, List, [], length, take, drop, Some, None, Option, Ok, Err, ◌≢◌}
 use Rattle.std.specs.List.{slice_get}
 use Rattle.cost.specs.Kind.{Kind}
 use Rattle.plant.specs.declared.layers.shift.ShiftFault.TheVariants.{NoLane, Closed as closed_already, Full as closed_64, Open as not_closed}
@@ -8,12 +8,10 @@ use Rattle.plant.specs.Walk.{NoneBelow}
 use Rattle.search.specs.declared.call.Call.{Call}
 use Rattle.search.specs.declared.call.Call.TheVariants.{Close, Reopen, One, Two}
 use Rattle.search.specs.declared.fault.SearchFault.{SearchFault}
-use Rattle.search.specs.declared.fault.SearchFault.TheVariants.{Start, Goal, Rows, Queue, Route as ShortRoute}
+use Rattle.search.specs.declared.fault.SearchFault.TheVariants.{Start, Goal}
 use Rattle.search.specs.declared.reply.CallFault.TheVariants.{Search, Shift}
-use Rattle.search.specs.declared.reply.Counts.{Counts}
-use Rattle.search.specs.declared.reply.Counts.TheVariants.{Forward, Both}
-use Rattle.search.specs.declared.reply.Reply.{Reply}
-use Rattle.search.specs.declared.reply.Reply.TheVariants.{Closed, Reopened, Route, Beyond, Refused}
+use Rattle.search.specs.declared.answer.Counts.{Counts}
+use Rattle.search.specs.declared.reply.Done.TheVariants.{Closed, Reopened, Searched as Told}
 use Rattle.search.specs.declared.row.Row.{Row}
 use Rattle.search.specs.declared.row.State.TheVariants.{Scanned}
 use Rattle.search.specs.Lists.{In, Distinct}
@@ -22,21 +20,22 @@ use Rattle.search.specs.Steps.{count_scanned}
 use Rattle.search.specs.OneWay.{one_way}
 use Rattle.search.specs.TwoWay.{two_way}
 use Rattle.search.specs.Answer.{RouteOf, AllBeyond, WorthForward, WorthBackward}
-use Rattle.search.specs.Calls.{Event, past, taken, Areas}
+use Rattle.search.specs.Faults.{one_short, two_short}
+use Rattle.search.specs.Calls.{Reply, Event, past, taken, Areas}
 use Rattle.search.specs.Moment.{Shut, Fewer, Full, Moment}
 
 -- a close is accepted exactly when the lane exists, is not shut, and fewer than 64 are shut
 pub data CloseRight {C : Type 0} (f : Floor C) (events : List (Event C)) (n : ℕ) (r : Reply C) : Type 0 where
-  accepted : n < length f.lanes → (Shut events n → ⊥) → Fewer events → r ≡ Closed n → CloseRight f events n r
-  lane_missing : length f.lanes ≤ n → r ≡ Refused (Shift (NoLane n)) → CloseRight f events n r
-  lane_shut : n < length f.lanes → Shut events n → r ≡ Refused (Shift (closed_already n)) → CloseRight f events n r
-  shift_full : n < length f.lanes → (Shut events n → ⊥) → Full events → r ≡ Refused (Shift (closed_64 n)) → CloseRight f events n r
+  accepted : n < length f.lanes → (Shut events n → ⊥) → Fewer events → r ≡ Ok (Closed n) → CloseRight f events n r
+  lane_missing : length f.lanes ≤ n → r ≡ Err (Shift (NoLane n)) → CloseRight f events n r
+  lane_shut : n < length f.lanes → Shut events n → r ≡ Err (Shift (closed_already n)) → CloseRight f events n r
+  shift_full : n < length f.lanes → (Shut events n → ⊥) → Full events → r ≡ Err (Shift (closed_64 n)) → CloseRight f events n r
 
 -- a reopen is accepted exactly when the lane exists and is shut
 pub data ReopenRight {C : Type 0} (f : Floor C) (events : List (Event C)) (n : ℕ) (r : Reply C) : Type 0 where
-  accepted : n < length f.lanes → Shut events n → r ≡ Reopened n → ReopenRight f events n r
-  lane_missing : length f.lanes ≤ n → r ≡ Refused (Shift (NoLane n)) → ReopenRight f events n r
-  lane_open : n < length f.lanes → (Shut events n → ⊥) → r ≡ Refused (Shift (not_closed n)) → ReopenRight f events n r
+  accepted : n < length f.lanes → Shut events n → r ≡ Ok (Reopened n) → ReopenRight f events n r
+  lane_missing : length f.lanes ≤ n → r ≡ Err (Shift (NoLane n)) → ReopenRight f events n r
+  lane_open : n < length f.lanes → (Shut events n → ⊥) → r ≡ Err (Shift (not_closed n)) → ReopenRight f events n r
 
 -- the rows that a search's steps leave: those from its start, and those from its goal
 abbrev pub rows_forward : {C : Type 0} → Kind C → Floor C → Call → List (Row C)
@@ -53,10 +52,10 @@ rows_backward k F (Two s t) = (two_way k F s t).far.rows
 
 -- how many nodes the search's steps mark scanned
 abbrev pub counts_of : {C : Type 0} → Kind C → Floor C → Call → Counts
-counts_of k F (Close n) = Forward 0
-counts_of k F (Reopen n) = Forward 0
-counts_of k F (One s t) = Forward (count_scanned (rows_forward k F (One s t)))
-counts_of k F (Two s t) = Both (count_scanned (rows_forward k F (Two s t))) (count_scanned (rows_backward k F (Two s t)))
+counts_of k F (Close n) = record { forward = 0; back = None }
+counts_of k F (Reopen n) = record { forward = 0; back = None }
+counts_of k F (One s t) = record { forward = count_scanned (rows_forward k F (One s t)); back = None }
+counts_of k F (Two s t) = record { forward = count_scanned (rows_forward k F (Two s t)); back = Some (count_scanned (rows_backward k F (Two s t))) }
 
 -- the nodes are those of a walk from s to t over open lanes that costs c, and none stands twice
 pub record OpenRoute {C : Type 0} (k : Kind C) (F : Floor C) (events : List (Event C)) (s t : ℕ) (c : C) (nodes : List ℕ) : Type 0 where
@@ -65,8 +64,8 @@ pub record OpenRoute {C : Type 0} (k : Kind C) (F : Floor C) (events : List (Eve
 
 -- the reply has a route, whose nodes stand in the list of routes after those told before, unless it is beyond
 pub data Shown {C : Type 0} (k : Kind C) (F : Floor C) (events : List (Event C)) (routes : List ℕ) (call : Call) (s t : ℕ) (c : C) (r : Reply C) : Type 0 where
-  by_route : (count : ℕ) → (c ≢ k.beyond) → OpenRoute k F events s t c (take count (drop (taken events) routes)) → r ≡ Route c (counts_of k F call) (taken events) count → Shown k F events routes call s t c r
-  by_none : c ≡ k.beyond → r ≡ Beyond (counts_of k F call) → Shown k F events routes call s t c r
+  by_route : (count : ℕ) → (c ≢ k.beyond) → OpenRoute k F events s t c (take count (drop (taken events) routes)) → r ≡ Ok (Told (record { scanned = counts_of k F call; route = Some (record { cost = c; nodes = count }) }) (taken events)) → Shown k F events routes call s t c r
+  by_none : c ≡ k.beyond → r ≡ Ok (Told (record { scanned = counts_of k F call; route = None }) (taken events)) → Shown k F events routes call s t c r
 
 -- what the reply to an accepted search from s to t, over the floor F at its moment, is held to
 pub record Answered {C : Type 0} (k : Kind C) (F : Floor C) (events : List (Event C)) (routes : List ℕ) (call : Call) (s t : ℕ) (r : Reply C) : Type 0 where
@@ -84,23 +83,15 @@ pub record Answered {C : Type 0} (k : Kind C) (F : Floor C) (events : List (Even
 abbrev pub too_short : {C : Type 0} → Floor C → Areas → ℕ → Call → Option SearchFault
 too_short f a left (Close n) = None
 too_short f a left (Reopen n) = None
-too_short f a left (One s t) =
-    cond (nat_lt a.rows f.nodes) (Some Rows)
-    (cond (nat_le a.entries (length f.lanes)) (Some Queue)
-    (cond (nat_lt left f.nodes) (Some ShortRoute) None))
-too_short f a left (Two s t) =
-    cond (nat_lt a.rows f.nodes) (Some Rows)
-    (cond (nat_lt a.back_rows f.nodes) (Some Rows)
-    (cond (nat_le a.entries (length f.lanes)) (Some Queue)
-    (cond (nat_le a.back_entries (length f.lanes)) (Some Queue)
-    (cond (nat_lt left f.nodes) (Some ShortRoute) None))))
+too_short f a left (One s t) = one_short f a.rows a.entries left
+too_short f a left (Two s t) = two_short f a.rows a.back_rows a.entries a.back_entries left
 
 -- a search is accepted exactly when its start and its goal are nodes and no work area is too short
 pub data SearchRight {C : Type 0} (k : Kind C) (f : Floor C) (events : List (Event C)) (routes : List ℕ) (call : Call) (short : Option SearchFault) (s t : ℕ) (r : Reply C) : Type 0 where
   accepted : s < f.nodes → t < f.nodes → short ≡ None → (F : Floor C) → Moment k f events F → Answered k F events routes call s t r → SearchRight k f events routes call short s t r
-  start_missing : f.nodes ≤ s → r ≡ Refused (Search (Start s)) → SearchRight k f events routes call short s t r
-  goal_missing : s < f.nodes → f.nodes ≤ t → r ≡ Refused (Search (Goal t)) → SearchRight k f events routes call short s t r
-  area_short : s < f.nodes → t < f.nodes → (x : SearchFault) → short ≡ Some x → r ≡ Refused (Search x) → SearchRight k f events routes call short s t r
+  start_missing : f.nodes ≤ s → r ≡ Err (Search (Start s)) → SearchRight k f events routes call short s t r
+  goal_missing : s < f.nodes → f.nodes ≤ t → r ≡ Err (Search (Goal t)) → SearchRight k f events routes call short s t r
+  area_short : s < f.nodes → t < f.nodes → (x : SearchFault) → short ≡ Some x → r ≡ Err (Search x) → SearchRight k f events routes call short s t r
 
 -- what the reply r to a call after the events is held to
 abbrev pub ReplyRight : {C : Type 0} → Kind C → Floor C → Areas → List (Event C) → List ℕ → Call → Reply C → Type 0

@@ -1,20 +1,20 @@
 -- Which lanes are shut after a list of calls with their replies, and the floor at that moment.
-use Rattle.std.specs.Prelude.{◌≡◌, ℕ, ◌<◌, ◌⊎◌, List, length, Some}
+use Rattle.std.specs.Prelude.{◌≡◌, ℕ, ◌<◌, ◌⊎◌, List, length, Some, Ok}
 use Rattle.std.specs.List.{slice_get}
 use Rattle.cost.specs.Kind.{Kind}
 use Rattle.plant.specs.declared.lane.Lane.{Lane}
 use Rattle.plant.specs.Floor.{Floor}
 use Rattle.search.specs.declared.call.Call.TheVariants.{Close, Reopen}
-use Rattle.search.specs.declared.reply.Reply.TheVariants.{Closed, Reopened}
+use Rattle.search.specs.declared.reply.Done.TheVariants.{Closed, Reopened}
 use Rattle.search.specs.Lists.{In, Distinct}
 use Rattle.search.specs.Calls.{Event}
 
 -- lane n was closed, or reopened: an accepted call
 abbrev pub Closes : {C : Type 0} → Event C → ℕ → Type 0
-Closes e n = (e.call ≡ Close n) × (e.reply ≡ Closed n)
+Closes e n = (e.call ≡ Close n) × (e.reply ≡ Ok (Closed n))
 
 abbrev pub Reopens : {C : Type 0} → Event C → ℕ → Type 0
-Reopens e n = (e.call ≡ Reopen n) × (e.reply ≡ Reopened n)
+Reopens e n = (e.call ≡ Reopen n) × (e.reply ≡ Ok (Reopened n))
 
 -- some accepted close of lane n stands in the events, and no accepted close or reopen of n after it
 pub record Shut {C : Type 0} (events : List (Event C)) (n : ℕ) : Type 0 where

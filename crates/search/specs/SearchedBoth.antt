@@ -1,53 +1,36 @@
 -- What a call of the two-way search answers and leaves.
-use Rattle.std.specs.Prelude.{◌≡◌, ℕ, cond, List, [], length, take, drop, Some, None, Option, nat_le, nat_lt}
+use Rattle.std.specs.Prelude.{◌≡◌, ℕ, List, take, drop, Option}
 use Rattle.cost.specs.Kind.{Kind}
 use Rattle.plant.specs.Floor.{Floor}
 use Rattle.search.specs.declared.row.Row.{Row}
-use Rattle.search.specs.declared.answer.AnswerBoth.{AnswerBoth}
-use Rattle.search.specs.declared.answer.AnswerBoth.TheVariants.{Route, Beyond}
+use Rattle.search.specs.declared.answer.Answer.{Answer}
+use Rattle.search.specs.declared.answer.Both.{Both}
 use Rattle.search.specs.declared.fault.SearchFault.{SearchFault}
-use Rattle.search.specs.declared.fault.SearchFault.TheVariants.{Start, Goal, Rows, Queue, Route as ShortRoute}
+use Rattle.search.specs.Faults.{two_short, search_fault}
 use Rattle.search.specs.Lists.{onto}
 use Rattle.search.specs.Steps.{count_scanned}
+use Rattle.search.specs.Searched.{answer_of, nodes_of}
 use Rattle.search.specs.TwoWay.{two_way, two_route}
 
 -- the first thing that is wrong with a call, by how many rows and entries it lends to each side, and how many route places
 abbrev pub two_fault : {C : Type 0} → Floor C → ℕ → ℕ → ℕ → ℕ → ℕ → ℕ → ℕ → Option SearchFault
-two_fault f start goal rows back_rows entries back_entries places =
-    cond (nat_lt start f.nodes)
-    (cond (nat_lt goal f.nodes)
-    (cond (nat_lt rows f.nodes) (Some Rows)
-    (cond (nat_lt back_rows f.nodes) (Some Rows)
-    (cond (nat_le entries (length f.lanes)) (Some Queue)
-    (cond (nat_le back_entries (length f.lanes)) (Some Queue)
-    (cond (nat_lt places f.nodes) (Some ShortRoute) None)))))
-    (Some (Goal goal)))
-    (Some (Start start))
+two_fault f start goal rows back_rows entries back_entries places = search_fault f start goal (two_short f rows back_rows entries back_entries places)
 
-abbrev pub two_answer : {C : Type 0} → Kind C → Floor C → ℕ → ℕ → AnswerBoth C
-two_answer k f start goal =
-    let cost = (two_way k f start goal).met.cost in
-    let ours = count_scanned (two_way k f start goal).near.rows in
-    let theirs = count_scanned (two_way k f start goal).far.rows in
-    cond (k.at_most k.beyond cost) (Beyond ours theirs) (Route cost ours theirs (length (two_route k f start goal)))
+-- how many nodes each side's steps mark scanned
+abbrev pub both_scanned : {C : Type 0} → Kind C → Floor C → ℕ → ℕ → Both
+both_scanned k f start goal = record { forward = count_scanned (two_way k f start goal).near.rows; back = count_scanned (two_way k f start goal).far.rows }
 
--- the nodes that are written: none where the answer is beyond
+abbrev pub two_answer : {C : Type 0} → Kind C → Floor C → ℕ → ℕ → Answer C Both
+two_answer k f start goal = answer_of k (both_scanned k f start goal) (two_way k f start goal).met.cost (two_route k f start goal)
+
 abbrev pub two_nodes : {C : Type 0} → Kind C → Floor C → ℕ → ℕ → List ℕ
-two_nodes k f start goal = cond (k.at_most k.beyond (two_way k f start goal).met.cost) [] (two_route k f start goal)
+two_nodes k f start goal = nodes_of k (two_way k f start goal).met.cost (two_route k f start goal)
 
 -- by the turns: the first rows of both sides, the answer and the route are theirs, and what is past them is as it was
-pub record SearchedBoth {C : Type 0} (k : Kind C) (f : Floor C) (start goal : ℕ) (rows rows' theirs theirs' : List (Row C)) (route route' : List ℕ) (a : AnswerBoth C) : Type 0 where
+pub record SearchedBoth {C : Type 0} (k : Kind C) (f : Floor C) (start goal : ℕ) (rows rows' theirs theirs' : List (Row C)) (route route' : List ℕ) (a : Answer C Both) : Type 0 where
   pub rows_are : take f.nodes rows' ≡ (two_way k f start goal).near.rows
   pub rows_past : drop f.nodes rows' ≡ drop f.nodes rows
   pub back_are : take f.nodes theirs' ≡ (two_way k f start goal).far.rows
   pub back_past : drop f.nodes theirs' ≡ drop f.nodes theirs
   pub answer_is : a ≡ two_answer k f start goal
   pub route_is : route' ≡ onto (two_nodes k f start goal) route
-
-abbrev pub both_cost : {C : Type 0} → Kind C → AnswerBoth C → C
-both_cost k (Route cost ours theirs nodes) = cost
-both_cost k (Beyond ours theirs) = k.beyond
-
-abbrev pub both_count : {C : Type 0} → AnswerBoth C → ℕ
-both_count (Route cost ours theirs nodes) = nodes
-both_count (Beyond ours theirs) = 0

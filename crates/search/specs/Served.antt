@@ -1,27 +1,23 @@
 -- What a shift replies to its calls, one after another, and the nodes that it writes: by what it has closed and the places taken.
-use Rattle.std.specs.Prelude.{◌≡◌, ℕ, ◌+◌, ◌-◌, ◌≤◌, cond, List, [], ◌∷◌, ◌++◌, length, Some, None, Option, nat_lt}
+use Rattle.std.specs.Prelude.{◌≡◌, ℕ, ◌+◌, ◌-◌, ◌≤◌, cond, List, [], ◌∷◌, ◌++◌, length, Some, None, Option, Ok, Err, nat_lt}
 use Rattle.cost.specs.Kind.{Kind}
 use Rattle.plant.specs.declared.layers.shift.ShiftFault.{ShiftFault}
 use Rattle.plant.specs.Floor.{Floor}
 use Rattle.plant.specs.Closed.{among, without, shut}
 use Rattle.plant.specs.Shifted.{close_fault, reopen_fault}
-use Rattle.search.specs.declared.answer.Answer.{Answer}
-use Rattle.search.specs.declared.answer.Answer.TheVariants.{Route, Beyond}
 use Rattle.search.specs.declared.call.Call.{Call}
 use Rattle.search.specs.declared.call.Call.TheVariants.{Close, Reopen, One, Two}
 use Rattle.search.specs.declared.fault.SearchFault.{SearchFault}
-use Rattle.search.specs.declared.fault.SearchFault.TheVariants.{Start, Goal, Replies}
+use Rattle.search.specs.declared.fault.SearchFault.TheVariants.{Replies}
 use Rattle.search.specs.declared.reply.CallFault.TheVariants.{Search, Shift}
-use Rattle.search.specs.declared.reply.Counts.TheVariants.{Forward, Both}
-use Rattle.search.specs.declared.reply.Reply.{Reply}
-use Rattle.search.specs.declared.reply.Reply.TheVariants.{Closed, Reopened, Route as Told, Beyond as ToldBeyond, Refused}
-use Rattle.search.specs.declared.answer.AnswerBoth.{AnswerBoth}
-use Rattle.search.specs.declared.answer.AnswerBoth.TheVariants.{Route as RouteTwo, Beyond as BeyondTwo}
+use Rattle.search.specs.declared.reply.Done.TheVariants.{Closed, Reopened, Searched as Told}
 use Rattle.search.specs.declared.row.Row.{Row}
 use Rattle.search.specs.Lists.{onto, onto_at}
 use Rattle.search.specs.OneWay.{one_way, one_route}
 use Rattle.search.specs.TwoWay.{two_way, two_route}
-use Rattle.search.specs.Calls.{Areas}
+use Rattle.search.specs.Faults.{search_fault}
+use Rattle.search.specs.Searched.{answer_of, nodes_of}
+use Rattle.search.specs.Calls.{Reply, Areas}
 use Rattle.search.specs.Life.{counts_of, rows_forward, rows_backward, too_short}
 
 -- a reply, with the nodes and the rows that are written for it
@@ -37,38 +33,25 @@ plain r = record { reply = r; nodes = []; near = []; far = [] }
 -- m, unless there is a fault
 abbrev pub unless_shift : {C : Type 0} → Option ShiftFault → Made C → Made C
 unless_shift None m = m
-unless_shift (Some x) m = plain (Refused (Shift x))
+unless_shift (Some x) m = plain (Err (Shift x))
 
 abbrev pub unless_search : {C : Type 0} → Option SearchFault → Made C → Made C
 unless_search None m = m
-unless_search (Some x) m = plain (Refused (Search x))
+unless_search (Some x) m = plain (Err (Search x))
 
 -- the answer to a search of cost c, whose route is written from the place `at` on: a route, unless the cost is beyond
 abbrev pub answer : {C : Type 0} → Kind C → Floor C → ℕ → Call → C → List ℕ → Made C
 answer k F at call c nodes = record {
-  reply = cond (k.at_most k.beyond c) (ToldBeyond (counts_of k F call)) (Told c (counts_of k F call) at (length nodes));
-  nodes = cond (k.at_most k.beyond c) [] nodes;
+  reply = Ok (Told (answer_of k (counts_of k F call) c nodes) at);
+  nodes = nodes_of k c nodes;
   near = rows_forward k F call;
   far = rows_backward k F call;
 }
 
--- an answer as a reply, its route from the place `at` on
-abbrev pub one_told : {C : Type 0} → ℕ → Answer C → Reply C
-one_told at (Route c n nodes) = Told c (Forward n) at nodes
-one_told at (Beyond n) = ToldBeyond (Forward n)
-
-abbrev pub two_told : {C : Type 0} → ℕ → AnswerBoth C → Reply C
-two_told at (RouteTwo c n m nodes) = Told c (Both n m) at nodes
-two_told at (BeyondTwo n m) = ToldBeyond (Both n m)
-
--- why a search from s to t is refused, where `short` is the first work area that is too short
-abbrev pub search_fault : {C : Type 0} → Floor C → ℕ → ℕ → Option SearchFault → Option SearchFault
-search_fault f s t short = cond (nat_lt s f.nodes) (cond (nat_lt t f.nodes) short (Some (Goal t))) (Some (Start s))
-
 -- the reply to a call, where the lanes `closed` are closed and the places before `at` are taken
 abbrev pub made : {C : Type 0} → Kind C → Floor C → Areas → List ℕ → ℕ → Call → Made C
-made k f a closed at (Close n) = unless_shift (close_fault (length f.lanes) closed n) (plain (Closed n))
-made k f a closed at (Reopen n) = unless_shift (reopen_fault (length f.lanes) closed n) (plain (Reopened n))
+made k f a closed at (Close n) = unless_shift (close_fault (length f.lanes) closed n) (plain (Ok (Closed n)))
+made k f a closed at (Reopen n) = unless_shift (reopen_fault (length f.lanes) closed n) (plain (Ok (Reopened n)))
 made k f a closed at (One s t) =
     let F = shut k (among closed) f in
     unless_search (search_fault f s t (too_short f a (a.places - at) (One s t))) (answer k F at (One s t) (one_way k F s t).cost (one_route k F s t))
@@ -86,11 +69,10 @@ pub record Makes {C : Type 0} (m : Made C) (at : ℕ) (r : Reply C) (rows rows' 
 
 -- the closed lanes after a reply
 abbrev pub closed_after : {C : Type 0} → List ℕ → Reply C → List ℕ
-closed_after closed (Closed n) = n ∷ closed
-closed_after closed (Reopened n) = without n closed
-closed_after closed (Told c n from nodes) = closed
-closed_after closed (ToldBeyond n) = closed
-closed_after closed (Refused x) = closed
+closed_after closed (Ok (Closed n)) = n ∷ closed
+closed_after closed (Ok (Reopened n)) = without n closed
+closed_after closed (Ok (Told a from)) = closed
+closed_after closed (Err x) = closed
 
 -- what calls in turn leave: the replies, the nodes written for them one after another, the lanes closed, and the rows of either side
 pub record Served (C : Type 0) : Type 0 where

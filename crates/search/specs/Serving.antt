@@ -3,9 +3,8 @@ use Rattle.std.specs.Prelude.{◌≡◌, ℕ, ◌≤◌, List, ◌++◌, length,
 use Rattle.cost.specs.Kind.{Kind}
 use Rattle.plant.specs.Floor.{Floor}
 use Rattle.search.specs.declared.call.Call.{Call}
-use Rattle.search.specs.declared.reply.Reply.{Reply}
 use Rattle.search.specs.declared.row.Row.{Row}
-use Rattle.search.specs.Calls.{Areas}
+use Rattle.search.specs.Calls.{Reply, Areas}
 use Rattle.search.specs.Served.{served_from}
 
 -- what is there, with what the calls that are left will add, is what all calls give

@@ -1,12 +1,14 @@
 -- What a call of the survey answers and leaves.
-use Rattle.std.specs.Prelude.{◌≡◌, ℕ, ◌<◌, cond, List, map, length, take, drop, Some, None, Option, nat_le, nat_lt}
+use Rattle.std.specs.Prelude.{◌≡◌, ℕ, ◌<◌, List, map, take, drop, Some, Option}
 use Rattle.std.specs.List.{slice_get}
+use Rattle.std.specs.Option.{option_or}
 use Rattle.cost.specs.Kind.{Kind}
 use Rattle.plant.specs.Floor.{Floor}
 use Rattle.plant.specs.Walk.{Least}
 use Rattle.search.specs.declared.row.Row.{Row}
 use Rattle.search.specs.declared.fault.SearchFault.{SearchFault}
-use Rattle.search.specs.declared.fault.SearchFault.TheVariants.{Start, Rows, Queue, Costs}
+use Rattle.search.specs.declared.fault.SearchFault.TheVariants.{Start, Rows, Costs}
+use Rattle.search.specs.Faults.{node_fault, room_fault, queue_fault}
 use Rattle.search.specs.Lists.{onto}
 use Rattle.search.specs.Steps.{count_scanned, label_of}
 use Rattle.search.specs.Survey.{survey}
@@ -14,11 +16,7 @@ use Rattle.search.specs.Survey.{survey}
 -- the first thing that is wrong with a call, by how many rows, entries and costs it lends
 abbrev pub survey_fault : {C : Type 0} → Floor C → ℕ → ℕ → ℕ → ℕ → Option SearchFault
 survey_fault f start rows entries costs =
-    cond (nat_lt start f.nodes)
-    (cond (nat_lt rows f.nodes) (Some Rows)
-    (cond (nat_le entries (length f.lanes)) (Some Queue)
-    (cond (nat_lt costs f.nodes) (Some Costs) None)))
-    (Some (Start start))
+    option_or (node_fault f start (Start start)) (option_or (room_fault f rows Rows) (option_or (queue_fault f entries) (room_fault f costs Costs)))
 
 -- by the steps: the first rows, the count and the costs are theirs, and what is past them is as it was
 pub record Surveyed {C : Type 0} (k : Kind C) (f : Floor C) (start : ℕ) (rows rows' : List (Row C)) (costs costs' : List C) (n : ℕ) : Type 0 where

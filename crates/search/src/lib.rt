@@ -5,6 +5,7 @@ pub mod answer;
 mod begin;
 pub mod call;
 mod calling;
+mod check;
 pub mod entry;
 pub mod fault;
 mod follow;

@@ -9,8 +9,9 @@ ghost use Rattle.search.specs.Lists.{onto};
 ghost use Rattle.search.specs.Searched.{fault_of, one_answer, one_nodes, cost_of, node_count_of, Searched};
 ghost use Rattle.std.specs.Result.{result_err};
 
-use crate::answer::Answer;
+use crate::answer::{Answer, Route};
 use crate::begin::begin;
+use crate::check::{check_node, check_queue, check_room};
 use crate::entry::Entry;
 use crate::fault::SearchFault;
 use crate::follow::follow_out;
@@ -97,7 +98,7 @@ fn find<P: Plant>(
     rows: &mut [Row<P::Cost>],
     slots: &mut [Entry<P::Cost>],
     route: &mut [u32],
-) -> Answer<P::Cost>
+) -> Answer<P::Cost, u32>
     requires rows { length rows.old ≡ (P.Plant.floor plant.now).nodes }
     requires few { length rows.old < 2 ^ 32 }
     requires start { start < (P.Plant.floor plant.now).nodes }
@@ -110,13 +111,15 @@ fn find<P: Plant>(
 {
     let Ending { cost, scanned } = run(plant, start, goal, rows, slots);
     if P::Cost::beyond().at_most(cost) {
-        return Answer::Beyond { scanned };
+        return Answer {
+            scanned,
+            route: None,
+        };
     }
     let nodes = write_route(plant, start, goal, rows, route) as u32;
-    Answer::Route {
-        cost,
+    Answer {
         scanned,
-        nodes,
+        route: Some(Route { cost, nodes }),
     }
 }
 
@@ -128,27 +131,16 @@ pub fn one_way<P: Plant>(
     rows: &mut [Row<P::Cost>],
     queue: &mut [Entry<P::Cost>],
     route: &mut [u32],
-) -> Result<Answer<P::Cost>, SearchFault>
+) -> Result<Answer<P::Cost, u32>, SearchFault>
     ensures fault { result_err result ≡ fault_of (P.Plant.floor plant.now) start goal (length rows.old) (length queue.old) (length route.old) }
     ensures searched { MatchResult result (λ a. Searched P.Cost.CostKind.kind (P.Plant.floor plant.now) start goal rows.old rows.new route.old route.new a) (λ _. (rows.new ≡ rows.old) × (queue.new ≡ queue.old) × (route.new ≡ route.old)) }
     ensures right { IfOk result (λ a. Right P.Cost.CostKind.kind (P.Plant.floor plant.now) start goal (cost_of P.Cost.CostKind.kind a) (take (node_count_of a) route.new) (take (P.Plant.floor plant.now).nodes rows.new)) }
 {
-    let nodes = plant.node_count();
-    if start >= nodes {
-        return Err(SearchFault::Start(start));
-    }
-    if goal >= nodes {
-        return Err(SearchFault::Goal(goal));
-    }
-    let n = nodes as usize;
-    if rows.len() < n {
-        return Err(SearchFault::Rows);
-    }
-    if queue.len() <= plant.lane_count() as usize {
-        return Err(SearchFault::Queue);
-    }
-    if route.len() < n {
-        return Err(SearchFault::Route);
-    }
+    check_node(plant, start, SearchFault::Start(start))?;
+    check_node(plant, goal, SearchFault::Goal(goal))?;
+    check_room(plant, rows, SearchFault::Rows)?;
+    check_queue(plant, queue)?;
+    check_room(plant, route, SearchFault::Route)?;
+    let n = plant.node_count() as usize;
     Ok(find(plant, start, goal, &mut rows[0..n], queue, route))
 }

@@ -1,4 +1,8 @@
 // The replies to calls on a shift.
+ghost use Rattle.std.specs.Prelude.{◌≡◌};
+ghost use Rattle.search.specs.declared.reply.CallFault.TheVariants.{Search, Shift};
+
+use crate::answer::{Answer, Counts};
 use crate::fault::SearchFault;
 use plant::layers::shift::ShiftFault;
 
@@ -9,26 +13,31 @@ pub enum CallFault {
     Shift(ShiftFault),
 }
 
-// How many nodes a search has scanned: from its start, and from its goal too where it goes from both ends.
-#[derive(Clone, Copy, PartialEq, Eq, Debug)]
-pub enum Counts {
-    Forward(u32),
-    Both(u32, u32),
+impl From<SearchFault> for CallFault {
+    ghost from_gives = { λ fault r. r ≡ Search fault };
+
+    fn from(fault: SearchFault) -> CallFault {
+        CallFault::Search(fault)
+    }
 }
 
-// The nodes of a route stand in the list of routes, `nodes` of them from the place `from` on.
-#[derive(Clone, Copy)]
-pub enum Reply<C> {
+impl From<ShiftFault> for CallFault {
+    ghost from_gives = { λ fault r. r ≡ Shift fault };
+
+    fn from(fault: ShiftFault) -> CallFault {
+        CallFault::Shift(fault)
+    }
+}
+
+// What a call has done. The nodes of a route stand in the list of routes from the place `from` on.
+#[derive(Clone, Copy, PartialEq, Eq, Debug)]
+pub enum Done<C> {
     Closed(u32),
     Reopened(u32),
-    Route {
-        cost: C,
-        counts: Counts,
+    Searched {
+        answer: Answer<C, Counts>,
         from: usize,
-        nodes: u32,
     },
-    Beyond {
-        counts: Counts,
-    },
-    Refused(CallFault),
 }
+
+pub type Reply<C> = Result<Done<C>, CallFault>;

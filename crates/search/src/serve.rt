@@ -16,7 +16,7 @@ use cost::kind::CostKind;
 use plant::layers::shift::Shift;
 use plant::plant::Plant;
 
-// Puts a reply into its place.
+// Puts a reply into its place. It stands alone since the place of a reply, whose size no caller knows, is proved only here.
 fn put_reply<C: CostKind>(replies: &mut [Reply<C>], i: usize, reply: Reply<C>)
     requires { i < length replies.old }
     ensures { replies.new ≡ slice_set replies.old i reply }
@@ -41,9 +41,10 @@ fn call_all<P: Plant>(
     ensures below { shift.new.below ≡ shift.old.below }
 {
     let mut at = 0;
-    for i in 0..calls.len() {
+    // by index: after a zip with `iter_mut` a proof knows nothing of the list
+    for (i, call) in calls.iter().enumerate() {
         let reply = call_on(
-            shift, calls[i], at, rows, back_rows, queue, back_queue, routes,
+            shift, *call, at, rows, back_rows, queue, back_queue, routes,
         );
         put_reply(replies, i, reply);
         at += nodes_of(reply);

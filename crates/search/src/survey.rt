@@ -7,6 +7,7 @@ ghost use Rattle.search.specs.Survey.{survey};
 ghost use Rattle.search.specs.Surveyed.{survey_fault, Surveyed, CostsLeast};
 ghost use Rattle.std.specs.Result.{result_err};
 
+use crate::check::{check_node, check_queue, check_room};
 use crate::entry::Entry;
 use crate::fault::SearchFault;
 use crate::one_way::{Ending, run};
@@ -20,8 +21,8 @@ fn write_labels<C: CostKind>(rows: &[Row<C>], costs: &mut [C])
     requires { length rows.now ≤ length costs.old }
     ensures { costs.new ≡ onto (map label_of rows.now) costs.old }
 {
-    for i in 0..rows.len() {
-        costs[i] = rows[i].label;
+    for (i, row) in rows.iter().enumerate() {
+        costs[i] = row.label;
     }
 }
 
@@ -61,19 +62,10 @@ pub fn survey_from<P: Plant>(
     ensures surveyed { MatchResult result (λ n. Surveyed P.Cost.CostKind.kind (P.Plant.floor plant.now) start rows.old rows.new costs.old costs.new n) (λ _. (rows.new ≡ rows.old) × (queue.new ≡ queue.old) × (costs.new ≡ costs.old)) }
     ensures least { OnOk result (CostsLeast P.Cost.CostKind.kind (P.Plant.floor plant.now) start costs.new × LeastExist P.Cost.CostKind.kind (P.Plant.floor plant.now)) }
 {
-    let nodes = plant.node_count();
-    if start >= nodes {
-        return Err(SearchFault::Start(start));
-    }
-    let n = nodes as usize;
-    if rows.len() < n {
-        return Err(SearchFault::Rows);
-    }
-    if queue.len() <= plant.lane_count() as usize {
-        return Err(SearchFault::Queue);
-    }
-    if costs.len() < n {
-        return Err(SearchFault::Costs);
-    }
+    check_node(plant, start, SearchFault::Start(start))?;
+    check_room(plant, rows, SearchFault::Rows)?;
+    check_queue(plant, queue)?;
+    check_room(plant, costs, SearchFault::Costs)?;
+    let n = plant.node_count() as usize;
     Ok(explore(plant, start, &mut rows[0..n], queue, costs))
 }

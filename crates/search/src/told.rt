@@ -6,18 +6,18 @@ use crate::fault::SearchFault;
 use crate::reply::CallFault;
 use plant::refusal::{Layer, Refusal};
 
-impl SearchFault {
-    pub fn refusal(self) -> Refusal
-        ensures { result ≡ refusal_of self }
-    {
-        let (number, first) = match self {
+impl From<SearchFault> for Refusal {
+    ghost from_gives = { λ fault r. r ≡ refusal_of fault };
+
+    fn from(fault: SearchFault) -> Refusal {
+        let (number, first) = match fault {
             SearchFault::Start(v) => (7, v as usize),
             SearchFault::Goal(v) => (7, v as usize),
-            SearchFault::Rows => (8, 0),
-            SearchFault::Queue => (8, 0),
-            SearchFault::Route => (8, 0),
-            SearchFault::Costs => (8, 0),
-            SearchFault::Replies => (8, 0),
+            SearchFault::Rows
+            | SearchFault::Queue
+            | SearchFault::Route
+            | SearchFault::Costs
+            | SearchFault::Replies => (8, 0),
         };
         Refusal {
             number,
@@ -28,13 +28,29 @@ impl SearchFault {
     }
 }
 
+impl SearchFault {
+    pub fn refusal(self) -> Refusal
+        ensures { result ≡ refusal_of self }
+    {
+        self.into()
+    }
+}
+
+impl From<CallFault> for Refusal {
+    ghost from_gives = { λ fault r. r ≡ call_refusal_of fault };
+
+    fn from(fault: CallFault) -> Refusal {
+        match fault {
+            CallFault::Search(x) => x.into(),
+            CallFault::Shift(x) => x.refusal(),
+        }
+    }
+}
+
 impl CallFault {
     pub fn refusal(self) -> Refusal
         ensures { result ≡ call_refusal_of self }
     {
-        match self {
-            CallFault::Search(x) => x.refusal(),
-            CallFault::Shift(x) => x.refusal(),
-        }
+        self.into()
     }
 }

@@ -2,11 +2,13 @@
 ghost use Rattle.std.specs.Prelude.{◌≡◌, ◌<◌, ◌≤◌, length, take, IfOk, MatchResult};
 ghost use Rattle.search.specs.Answer.{RightBoth};
 ghost use Rattle.search.specs.Lists.{onto};
-ghost use Rattle.search.specs.SearchedBoth.{two_fault, two_answer, two_nodes, both_cost, both_count, SearchedBoth};
+ghost use Rattle.search.specs.Searched.{cost_of, node_count_of};
+ghost use Rattle.search.specs.SearchedBoth.{two_fault, two_answer, two_nodes, SearchedBoth};
 ghost use Rattle.search.specs.TwoWay.{two_way};
 ghost use Rattle.std.specs.Result.{result_err};
 
-use crate::answer::AnswerBoth;
+use crate::answer::{Answer, Both, Route};
+use crate::check::{check_node, check_queue, check_room};
 use crate::entry::Entry;
 use crate::fault::SearchFault;
 use crate::meeting::Meeting;
@@ -27,7 +29,7 @@ fn find_both<P: Plant>(
     slots: &mut [Entry<P::Cost>],
     back_slots: &mut [Entry<P::Cost>],
     route: &mut [u32],
-) -> AnswerBoth<P::Cost>
+) -> Answer<P::Cost, Both>
     requires start { start < (P.Plant.floor plant.now).nodes }
     requires goal { goal < (P.Plant.floor plant.now).nodes }
     requires rows { length rows.old ≡ (P.Plant.floor plant.now).nodes }
@@ -43,18 +45,20 @@ fn find_both<P: Plant>(
     let Meeting { cost, node } = run_both(plant, start, goal, rows, slots, back, back_slots);
     let ours = scanned_of(rows);
     let theirs = scanned_of(back);
+    let scanned = Both {
+        forward: ours,
+        back: theirs,
+    };
     if P::Cost::beyond().at_most(cost) {
-        return AnswerBoth::Beyond {
-            forward: ours,
-            back: theirs,
+        return Answer {
+            scanned,
+            route: None,
         };
     }
     let nodes = write_both(plant, start, goal, node, rows, back, route) as u32;
-    AnswerBoth::Route {
-        cost,
-        forward: ours,
-        back: theirs,
-        nodes,
+    Answer {
+        scanned,
+        route: Some(Route { cost, nodes }),
     }
 }
 
@@ -68,35 +72,19 @@ pub fn two_way<P: Plant>(
     queue: &mut [Entry<P::Cost>],
     back_queue: &mut [Entry<P::Cost>],
     route: &mut [u32],
-) -> Result<AnswerBoth<P::Cost>, SearchFault>
+) -> Result<Answer<P::Cost, Both>, SearchFault>
     ensures fault { result_err result ≡ two_fault (P.Plant.floor plant.now) start goal (length rows.old) (length back.old) (length queue.old) (length back_queue.old) (length route.old) }
     ensures searched { MatchResult result (λ a. SearchedBoth P.Cost.CostKind.kind (P.Plant.floor plant.now) start goal rows.old rows.new back.old back.new route.old route.new a) (λ _. (rows.new ≡ rows.old) × (back.new ≡ back.old) × (queue.new ≡ queue.old) × (back_queue.new ≡ back_queue.old) × (route.new ≡ route.old)) }
-    ensures right { IfOk result (λ a. RightBoth P.Cost.CostKind.kind (P.Plant.floor plant.now) start goal (both_cost P.Cost.CostKind.kind a) (take (both_count a) route.new) (take (P.Plant.floor plant.now).nodes rows.new) (take (P.Plant.floor plant.now).nodes back.new)) }
+    ensures right { IfOk result (λ a. RightBoth P.Cost.CostKind.kind (P.Plant.floor plant.now) start goal (cost_of P.Cost.CostKind.kind a) (take (node_count_of a) route.new) (take (P.Plant.floor plant.now).nodes rows.new) (take (P.Plant.floor plant.now).nodes back.new)) }
 {
-    let nodes = plant.node_count();
-    if start >= nodes {
-        return Err(SearchFault::Start(start));
-    }
-    if goal >= nodes {
-        return Err(SearchFault::Goal(goal));
-    }
-    let n = nodes as usize;
-    if rows.len() < n {
-        return Err(SearchFault::Rows);
-    }
-    if back.len() < n {
-        return Err(SearchFault::Rows);
-    }
-    let lanes = plant.lane_count() as usize;
-    if queue.len() <= lanes {
-        return Err(SearchFault::Queue);
-    }
-    if back_queue.len() <= lanes {
-        return Err(SearchFault::Queue);
-    }
-    if route.len() < n {
-        return Err(SearchFault::Route);
-    }
+    check_node(plant, start, SearchFault::Start(start))?;
+    check_node(plant, goal, SearchFault::Goal(goal))?;
+    check_room(plant, rows, SearchFault::Rows)?;
+    check_room(plant, back, SearchFault::Rows)?;
+    check_queue(plant, queue)?;
+    check_queue(plant, back_queue)?;
+    check_room(plant, route, SearchFault::Route)?;
+    let n = plant.node_count() as usize;
     Ok(find_both(
         plant,
         start,

@@ -1,12 +1,13 @@
 // Closing and reopening the lanes of a shift.
-ghost use Rattle.std.specs.Prelude.{◌≡◌, ℕ, ◌<◌, ◌≤◌, List, [], ◌∷◌, length, take, MatchResult};
+ghost use Rattle.std.specs.Prelude.{◌≡◌, [], ◌∷◌, length, MatchResult};
 ghost use Rattle.std.specs.Result.{result_err};
-ghost use Rattle.plant.specs.Closed.{among, without};
+ghost use Rattle.plant.specs.Closed.{without};
 ghost use Rattle.plant.specs.Shifted.{closed_list, is_shut, close_fault, reopen_fault, refusal_of};
 
 use crate::layers::shift::{Shift, ShiftFault};
 use crate::plant::Plant;
 use crate::refusal::{Layer, Refusal};
+use arrayvec::ArrayVec;
 
 impl<P> Shift<P> {
     // A shift with nothing closed.
@@ -15,38 +16,15 @@ impl<P> Shift<P> {
     {
         Shift {
             below,
-            closed: [0; 64],
-            count: 0,
+            closed: ArrayVec::new(),
         }
     }
 
     pub fn is_closed(&self, k: u32) -> bool
         ensures { result ≡ is_shut self.now k }
     {
-        for i in 0..self.count {
-            if self.closed[i] == k {
-                return true;
-            }
-        }
-        false
+        self.closed.as_slice().contains(&k)
     }
-}
-
-// Keeps, of the first `n` numbers, those that are not `k`, in their order at the front, and counts them.
-fn keep_others(xs: &mut [u32], n: usize, k: u32) -> usize
-    requires { n ≤ length xs.old }
-    ensures kept { take result xs.new ≡ without k (take n xs.old) }
-    ensures few { result ≤ n }
-{
-    let mut m = 0;
-    for i in 0..n {
-        let x = xs[i];
-        if x != k {
-            xs[m] = x;
-            m += 1;
-        }
-    }
-    m
 }
 
 impl<P: Plant> Shift<P> {
@@ -61,12 +39,10 @@ impl<P: Plant> Shift<P> {
         if self.is_closed(k) {
             return Err(ShiftFault::Closed(k));
         }
-        let n = self.count;
-        if n >= 64 {
+        if self.closed.is_full() {
             return Err(ShiftFault::Full(k));
         }
-        self.closed[n] = k;
-        self.count = n + 1;
+        self.closed.push(k);
         Ok(())
     }
 
@@ -81,20 +57,16 @@ impl<P: Plant> Shift<P> {
         if !self.is_closed(k) {
             return Err(ShiftFault::Open(k));
         }
-        let mut closed = self.closed;
-        let n = self.count;
-        let m = keep_others(&mut closed, n, k);
-        self.closed = closed;
-        self.count = m;
+        self.closed.retain(|x| *x != k);
         Ok(())
     }
 }
 
-impl ShiftFault {
-    pub fn refusal(self) -> Refusal
-        ensures { result ≡ refusal_of self }
-    {
-        let (number, lane) = match self {
+impl From<ShiftFault> for Refusal {
+    ghost from_gives = { λ fault r. r ≡ refusal_of fault };
+
+    fn from(fault: ShiftFault) -> Refusal {
+        let (number, lane) = match fault {
             ShiftFault::NoLane(k) => (9, k),
             ShiftFault::Closed(k) => (10, k),
             ShiftFault::Full(k) => (11, k),
@@ -106,5 +78,13 @@ impl ShiftFault {
             first: lane as usize,
             second: 0,
         }
+    }
+}
+
+impl ShiftFault {
+    pub fn refusal(self) -> Refusal
+        ensures { result ≡ refusal_of self }
+    {
+        Refusal::from(self)
     }
 }

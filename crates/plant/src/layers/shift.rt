@@ -1,5 +1,5 @@
 // The shift: a plant with some lanes closed for the time being. It stands alone so that specifications can name it.
-ghost use Rattle.std.specs.Prelude.{◌≡◌, ◌≤◌, length};
+use arrayvec::ArrayVec;
 
 // The most lanes that may be closed at one time.
 pub const MOST_CLOSED: usize = 64;
@@ -8,10 +8,8 @@ pub const MOST_CLOSED: usize = 64;
 #[derive(Drop)]
 pub struct Shift<P> {
     pub(crate) below: P,
-    pub(crate) closed: [u32; 64],
-    pub(crate) count: usize,
-    ghost full: { length closed ≡ 64 },
-    ghost few: { count ≤ 64 },
+    // the closed lanes' numbers, the latest last
+    pub(crate) closed: ArrayVec<u32, MOST_CLOSED>,
 }
 
 // Why a close or a reopen is refused, with the lane.

@@ -24,20 +24,14 @@ impl<P: Plant> Plant for Shift<P> {
     }
 
     fn lane(&self, k: u32) -> Option<Lane<P::Cost>> {
-        match self.below.lane(k) {
-            Some(l) => {
-                if self.is_closed(k) {
-                    Some(Lane {
-                        tail: l.tail,
-                        head: l.head,
-                        cost: P::Cost::beyond(),
-                    })
-                } else {
-                    Some(l)
-                }
-            }
-            None => None,
+        let lane = self.below.lane(k)?;
+        if self.is_closed(k) {
+            return Some(Lane {
+                cost: P::Cost::beyond(),
+                ..lane
+            });
         }
+        Some(lane)
     }
 
     fn out_lane(&self, v: u32, j: u32) -> Option<u32> {

@@ -26,14 +26,11 @@ impl<P: Plant> Plant for Turned<P> {
     }
 
     fn lane(&self, k: u32) -> Option<Lane<P::Cost>> {
-        match self.below.lane(k) {
-            Some(l) => Some(Lane {
-                tail: l.head,
-                head: l.tail,
-                cost: l.cost,
-            }),
-            None => None,
-        }
+        self.below.lane(k).map(|l| Lane {
+            tail: l.head,
+            head: l.tail,
+            cost: l.cost,
+        })
     }
 
     fn out_lane(&self, v: u32, j: u32) -> Option<u32> {

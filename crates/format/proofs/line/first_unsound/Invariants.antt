@@ -4,8 +4,10 @@ use Rattle.format.proofs.Left.{Left}
 use Rattle.format.proofs.line.first_unsound.Given as goal
 
 -- the tokens from here on are left
-abbrev pub invariant-loop-at : goal.invariant-loop-at
-invariant-loop-at l = (l.line.from ≤ l.at) × ((ts : List Token) (rest : List ℕ) → scan begin 1 (drop l.line.from l.src) ≡ line ts rest → Left l.src l.line.from l.at ts rest)
+abbrev pub invariant-loop-token : goal.invariant-loop-token
+invariant-loop-token l =
+    (l.cursor.line ≡ l.line) × (l.line.from ≤ l.cursor.at)
+    × ((ts : List Token) (rest : List ℕ) → scan begin 1 (drop l.line.from l.line.text.now) ≡ line ts rest → Left l.line.text.now l.line.from l.cursor.at ts rest)
 
-abbrev pub decreases-loop-at : goal.decreases-loop-at
-decreases-loop-at l = length l.src - l.at
+abbrev pub decreases-loop-token : goal.decreases-loop-token
+decreases-loop-token l = length l.line.text.now - l.cursor.at

@@ -6,4 +6,4 @@ use Rattle.format.proofs.marks.fill_row.Goals as goal
 pub returns : goal.returns
 returns c xs v =
     put-row c.args.first c.args.nodes c.args.rows.now c.fill_values.new.row xs
-    (c.fill_values.ensures xs (subst (ValuesAt c.args.src.now c.args.at xs) (sym (row_long c.args.first c.args.nodes c.args.rows.now c.requires)) v))
+    (c.fill_values.ensures xs (subst (ValuesAt c.args.values.line.text.now c.args.values.at xs) (sym (row_long c.args.first c.args.nodes c.args.rows.now c.requires)) v))

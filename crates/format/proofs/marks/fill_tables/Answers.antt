@@ -34,16 +34,16 @@ pub loop-m-preserved : goal.loop-m-preserved
 loop-m-preserved c ms h =
     let i = c.loop-m.invariant ms h in
     let t = c.loop-m-test.true in
-    let k = marks_nth c.args.nodes c.args.src.now ms c.args.marks.now _ c.loop-m.m h t in (
-      to_more c.args.nodes c.loop-m.m c.args.src.now ms c.args.marks.now _ c.args.to.now c.loop-m.to c.fill_row.new.rows k h (omega arith) i.0 (c.fill_row.ensures (to_row k.mark) k.here.0),
-      from_more c.args.nodes c.loop-m.m c.args.src.now ms c.args.marks.now _ c.args.from.now c.loop-m.from c.fill_row-in-loop-m.new.rows k h (omega arith) i.1
+    let k = marks_nth c.args.nodes ms c.args.marks.now _ c.loop-m.m h t in (
+      to_more c.args.nodes c.loop-m.m ms c.args.marks.now _ c.args.to.now c.loop-m.to c.fill_row.new.rows k h (omega arith) i.0 (c.fill_row.ensures (to_row k.mark) k.here.0),
+      from_more c.args.nodes c.loop-m.m ms c.args.marks.now _ c.args.from.now c.loop-m.from c.fill_row-in-loop-m.new.rows k h (omega arith) i.1
           (c.fill_row-in-loop-m.ensures (from_row k.mark) k.here.1),
     )
 
 pub returns : goal.returns
 returns c ms h =
     let i = c.loop-m.invariant ms h in
-    let l = marks_long c.args.nodes c.args.src.now ms c.args.marks.now h in
+    let l = marks_long c.args.nodes ms c.args.marks.now h in
     let t = c.loop-m-test.false in
     let e = c.loop-m.auto.m-end in
     (table-all to_row c.args.nodes c.loop-m.m ms c.args.to.now c.loop-m.to (omega arith) i.0, table-all from_row c.args.nodes c.loop-m.m ms c.args.from.now c.loop-m.from (omega arith) i.1)

@@ -6,13 +6,13 @@ use Rattle.format.proofs.Kept.{read_none, read_lost, read_more, read_all, push_l
 use Rattle.format.proofs.marks.read_marks.Goals as goal
 
 pub loop-m-init : goal.loop-m-init
-loop-m-init c = (record { xs = []; long = refl; is = read_none (mark_form c.args.counts.nodes) (drop c.args.from c.args.src.now) c.args.counts.landmarks (2 + c.args.counts.lanes) }, λ _. tt)
+loop-m-init c = (record { xs = []; long = refl; is = read_none (mark_form c.args.counts.nodes) (drop c.args.from c.args.text.now) c.args.counts.landmarks (2 + c.args.counts.lanes) }, λ _. tt)
 
 pub returns-in_err-read : goal.returns-in_err-read
 returns-in_err-read c =
     let p = err_from_is_err_and c.from_residual.result c.from_residual.ensures.1 in
     rw (p.1, p.2)
-    (read_lost (mark_form c.args.counts.nodes) c.args.src.now c.args.from c.loop-m.at c.args.counts.landmarks (2 + c.args.counts.lanes) c.loop-m.m _ c.loop-m.invariant.0 c.loop-m-test.true
+    (read_lost (mark_form c.args.counts.nodes) c.args.text.now c.args.from c.loop-m.at c.args.counts.landmarks (2 + c.args.counts.lanes) c.loop-m.m _ c.loop-m.invariant.0 c.loop-m-test.true
     c.in_err-read.ensures)
 
 pub loop-m-preserved : goal.loop-m-preserved
@@ -25,14 +25,14 @@ loop-m-preserved c =
         xs = r.xs ++ (m ∷ []);
         long = push_long r.xs m c.loop-m.m r.long;
         is =
-            read_more (mark_form c.args.counts.nodes) c.args.src.now c.args.from c.loop-m.at c.in_ok-read.read.end c.args.counts.landmarks (2 + c.args.counts.lanes) c.loop-m.m m r
+            read_more (mark_form c.args.counts.nodes) c.args.text.now c.args.from c.loop-m.at c.in_ok-read.read.end c.args.counts.landmarks (2 + c.args.counts.lanes) c.loop-m.m m r
             c.loop-m-test.true k.1;
       },
-      subst (MarksKept c.args.counts.nodes c.args.src.now (r.xs ++ (m ∷ []))) (sym c.keep_mark.ensures)
-          (λ h. marks_more c.args.counts.nodes c.args.src.now r.xs m c.in_ok-read.read.mark c.loop-m.marks c.loop-m.m r.long k.2 c.loop-m.invariant.1 h l),
+      subst (MarksKept c.args.counts.nodes (r.xs ++ (m ∷ []))) (sym c.keep.ensures)
+          (λ h. marks_more c.args.counts.nodes r.xs m c.in_ok-read.read.mark c.loop-m.marks c.loop-m.m r.long k.2 c.loop-m.invariant.1 h l),
     )
 
 pub returns : goal.returns
 returns c =
     let r = c.loop-m.invariant.0 in
-    (r.xs, read_all (mark_form c.args.counts.nodes) c.args.src.now c.args.from c.loop-m.at c.args.counts.landmarks (2 + c.args.counts.lanes) c.loop-m.m r c.loop-m-test.false, (let l = r.long in let t = c.loop-m-test.false in let e = c.loop-m.auto.m-end in omega arith), c.loop-m.invariant.1)
+    (r.xs, read_all (mark_form c.args.counts.nodes) c.args.text.now c.args.from c.loop-m.at c.args.counts.landmarks (2 + c.args.counts.lanes) c.loop-m.m r c.loop-m-test.false, (let l = r.long in let t = c.loop-m-test.false in let e = c.loop-m.auto.m-end in omega arith), c.loop-m.invariant.1)

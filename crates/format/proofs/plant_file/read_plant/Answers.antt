@@ -79,5 +79,5 @@ returns c =
           (kept_column (λ (l : Lane). l.head) p.lanes zeros _ counts.lanes k.2.lanes long k.3.heads_kept) (kept_column (λ (l : Lane). l.cost) p.lanes zeros _ counts.lanes k.2.lanes long k.3.costs_kept) w.0;
       tables =
           tables_for counts.nodes p.nodes p.marks _ _ (sym k.2.nodes)
-          (w.1 p.marks (kept_marks p.nodes counts.nodes counts.landmarks c.args.text.now p.marks _ k.2.nodes k.2.marks room k.4));
+          (w.1 p.marks (kept_marks p.nodes counts.nodes counts.landmarks p.marks _ k.2.nodes k.2.marks room k.4));
     }

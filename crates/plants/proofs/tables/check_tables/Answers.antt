@@ -1,22 +1,53 @@
 -- Each turn passes one landmark, or stops at it.
-use Rattle.std.proofs.Common.{arith}
+use Rattle.std.proofs.Common.{ℕ, ◌-◌, ◌*◌, ◌≤◌, drop, sym, ap, ◌∙◌, ⊎_elim, arith}
 use Rattle.plants.specs.Columns.{columns}
-use Rattle.plants.proofs.Landmarks.{row_ends, landmark_stops, landmark_passes}
+use Rattle.plants.specs.Faults.{table_fault}
+use Rattle.plants.proofs.Landmarks.{rows_end, row_next, row_part, rest_next, walk_ends, landmark_stops, landmark_passes}
 use Rattle.plants.proofs.Stages.{exit_tells}
 use Rattle.plants.proofs.tables.check_tables.Goals as goal
 
-pub slice_bounds-to-end : goal.slice_bounds-to-end
-slice_bounds-to-end c = omega (arith, row_ends c.args.nodes c.loop-m.m c.args.landmarks c.loop-m-test.true, c.requires.to)
-
-pub slice_bounds-from-end : goal.slice_bounds-from-end
-slice_bounds-from-end c = omega (arith, row_ends c.args.nodes c.loop-m.m c.args.landmarks c.loop-m-test.true, c.requires.from)
+pub loop-landmark-preserved : goal.loop-landmark-preserved
+loop-landmark-preserved c =
+    let n = c.args.nodes in
+    let l = columns c.args.lists in
+    let m = c.loop-landmark.landmark-iterator.count in
+    let i = c.loop-landmark.invariant in
+    let s = c.in-Some.ensures.steps in
+    let some = c.requires.some in
+    let to = row_part n c.args.landmarks m l.to _ some c.requires.to i.to c.in-Some.to.now _ s.0.0.1.0 (s.0.0.1.1 ∙ i.to_size) in
+    let from = row_part n c.args.landmarks m l.from _ some c.requires.from i.from c.in-Some.from.now _ s.0.1.1.0 (s.0.1.1.1 ∙ i.from_size) in
+    let lt = row_next n c.args.landmarks m l.to _ some c.requires.to i.to c.in-Some.to.now _ s.0.0.1.0 (s.0.0.1.1 ∙ i.to_size) in
+    let more = sym s.2 in
+    record {
+      to_size = s.0.0.0 ∙ i.to_size;
+      to = rest_next n c.args.landmarks m l.to _ some c.requires.to i.to c.in-Some.to.now _ s.0.0.1.0 (s.0.0.1.1 ∙ i.to_size) ∙ ap (λ (k : ℕ). drop (k * n) l.to) more;
+      from_size = s.0.1.0 ∙ i.from_size;
+      from = rest_next n c.args.landmarks m l.from _ some c.requires.from i.from c.in-Some.from.now _ s.0.1.1.0 (s.0.1.1.1 ∙ i.from_size) ∙ ap (λ (k : ℕ). drop (k * n) l.from) more;
+      left = ap (λ (k : ℕ). table_fault n l k (c.args.landmarks - k)) s.2 ∙ landmark_passes n c.args.landmarks m l i.left c.in-Some.landmark _ _ s.1 to from lt c.in_ok-check_landmark.ensures;
+    }
 
 pub returns-in_err-check_landmark : goal.returns-in_err-check_landmark
 returns-in_err-check_landmark c =
+    let n = c.args.nodes in
     let l = columns c.args.lists in
-    exit_tells c.from_residual.result _ _ c.from_residual.ensures.1 (landmark_stops c.args.nodes c.args.landmarks c.loop-m.m l c.loop-m-test.true c.loop-m.invariant _ c.in_err-check_landmark.ensures)
+    let m = c.loop-landmark.landmark-iterator.count in
+    let i = c.loop-landmark.invariant in
+    let s = c.in-Some.ensures.steps in
+    let some = c.requires.some in
+    let to = row_part n c.args.landmarks m l.to _ some c.requires.to i.to c.in-Some.to.now _ s.0.0.1.0 (s.0.0.1.1 ∙ i.to_size) in
+    let from = row_part n c.args.landmarks m l.from _ some c.requires.from i.from c.in-Some.from.now _ s.0.1.1.0 (s.0.1.1.1 ∙ i.from_size) in
+    let lt = row_next n c.args.landmarks m l.to _ some c.requires.to i.to c.in-Some.to.now _ s.0.0.1.0 (s.0.0.1.1 ∙ i.to_size) in
+    exit_tells c.from_residual.result _ _ c.from_residual.ensures.1 (landmark_stops n c.args.landmarks m l i.left c.in-Some.landmark _ _ s.1 to from lt _ c.in_err-check_landmark.ensures)
 
-pub loop-m-preserved : goal.loop-m-preserved
-loop-m-preserved c =
+pub returns : goal.returns
+returns c =
+    let n = c.args.nodes in
     let l = columns c.args.lists in
-    landmark_passes c.args.nodes c.args.landmarks c.loop-m.m l c.loop-m-test.true c.loop-m.invariant c.in_ok-check_landmark.ensures
+    let m = c.loop-landmark.landmark-iterator.count in
+    let i = c.loop-landmark.invariant in
+    let all : c.args.landmarks ≤ m =
+    ⊎_elim
+    (λ x. rows_end n c.args.landmarks m l.to _ c.requires.some c.requires.to i.to (omega (arith, x.1.1.0, i.to_size)))
+    (λ x. rows_end n c.args.landmarks m l.from _ c.requires.some c.requires.from i.from (omega (arith, x.1.1.0, i.from_size)))
+    c.in-None.ensures.steps.0 in
+    walk_ends n c.args.landmarks m l i.left all

@@ -1,78 +1,79 @@
-use Rattle.std.proofs.Common.{◌-◌, List, length, sym, refl, ap, ◌∙◌, subst}
+use Rattle.std.proofs.Common.{◌-◌, List, length, Ok, sym, refl, ap, ◌∙◌, subst}
 use Rattle.plant.specs.Closed.{among, shut}
 use Rattle.plant.specs.Shifted.{closed_list, close_fault, reopen_fault}
 use Rattle.search.specs.declared.call.Call.{Call}
 use Rattle.search.specs.declared.call.Call.TheVariants.{One, Two}
 use Rattle.search.specs.declared.reply.CallFault.TheVariants.{Shift}
-use Rattle.search.specs.declared.reply.Reply.TheVariants.{Closed, Reopened, Refused}
+use Rattle.search.specs.declared.reply.Done.TheVariants.{Closed, Reopened}
 use Rattle.search.specs.declared.row.Row.{Row}
 use Rattle.search.specs.Calls.{areas}
+use Rattle.search.specs.Faults.{search_fault}
 use Rattle.search.specs.Life.{too_short}
 use Rattle.search.specs.Lists.{onto}
 use Rattle.search.specs.OneWay.{one_way, one_route}
 use Rattle.search.specs.TwoWay.{two_way, two_route}
-use Rattle.search.specs.Served.{search_fault, made, Makes, closed_after}
-use Rattle.search.proofs.MadeFacts.{shift_accepts, shift_refuses, search_keeps, one_far}
+use Rattle.search.specs.Served.{made, Makes, closed_after}
+use Rattle.search.proofs.MadeFacts.{shift_accepts, shift_refuses, refused, search_keeps, one_far}
 use Rattle.search.proofs.calling.call_on.Goals as goal
 
-pub returns-in-Ok : goal.returns-in-Ok
-returns-in-Ok g c =
+pub returns-in_ok-close-in-Close : goal.returns-in_ok-close-in-Close
+returns-in_ok-close-in-Close g c =
     let f = g.P.Plant.floor c.args.shift.now.below in
     let closed = closed_list c.args.shift.now in
     let rows = c.args.rows.now in
     let back = c.args.back_rows.now in
     let routes = c.args.routes.now in
     let a = areas (length rows) (length c.args.queue.now) (length back) (length c.args.back_queue.now) (length routes) in
-    let P : Call → Type 0 = λ x. Makes (made g.P.Cost.CostKind.kind f a closed c.args.at x) c.args.at (Closed c.in-Close.k) rows rows back back routes routes in
+    let P : Call → Type 0 = λ x. Makes (made g.P.Cost.CostKind.kind f a closed c.args.at x) c.args.at (Ok (Closed c.in-Close.k)) rows rows back back routes routes in
     record {
-      makes = subst P (sym c.in-Close.is) (shift_accepts c.args.at rows rows back back routes c.requires (close_fault (length f.lanes) closed c.in-Close.k) (Closed c.in-Close.k) c.in-Ok.ensures.fault);
-      closed = c.in-Ok.ensures.closed;
-      below = c.in-Ok.ensures.below;
+      makes = subst P (sym c.in-Close.is) (shift_accepts c.args.at rows rows back back routes c.requires (close_fault (length f.lanes) closed c.in-Close.k) (Ok (Closed c.in-Close.k)) c.in_ok-close-in-Close.ensures.fault);
+      closed = c.in_ok-close-in-Close.ensures.closed;
+      below = c.in_ok-close-in-Close.ensures.below;
     }
 
-pub returns-in-Err : goal.returns-in-Err
-returns-in-Err g c =
+pub returns-in_err-close-in-Close : goal.returns-in_err-close-in-Close
+returns-in_err-close-in-Close g c =
     let f = g.P.Plant.floor c.args.shift.now.below in
     let closed = closed_list c.args.shift.now in
     let rows = c.args.rows.now in
     let back = c.args.back_rows.now in
     let routes = c.args.routes.now in
     let a = areas (length rows) (length c.args.queue.now) (length back) (length c.args.back_queue.now) (length routes) in
-    let P : Call → Type 0 = λ x. Makes (made g.P.Cost.CostKind.kind f a closed c.args.at x) c.args.at (Refused (Shift c.in-Err.x)) rows rows back back routes routes in
+    let P : Call → Type 0 = λ x. Makes (made g.P.Cost.CostKind.kind f a closed c.args.at x) c.args.at c.from_residual.result rows rows back back routes routes in
     record {
-      makes = subst P (sym c.in-Close.is) (shift_refuses c.args.at rows rows back back routes c.requires (close_fault (length f.lanes) closed c.in-Close.k) (Closed c.in-Close.k) c.in-Err.x c.in-Err.ensures.fault);
-      closed = ap closed_list c.in-Err.ensures.closed;
-      below = c.in-Err.ensures.below;
+      makes = subst P (sym c.in-Close.is) (shift_refuses c.args.at rows rows back back routes c.requires (close_fault (length f.lanes) closed c.in-Close.k) (Ok (Closed c.in-Close.k)) c.in_err-close-in-Close.field-0.0 c.in_err-close-in-Close.ensures.fault c.from_residual.result c.from_residual.ensures.1);
+      closed = ap closed_list c.in_err-close-in-Close.ensures.closed ∙ sym (ap (closed_after closed) (refused c.from_residual.result (Shift c.in_err-close-in-Close.field-0.0) c.from_residual.ensures.1));
+      below = c.in_err-close-in-Close.ensures.below;
     }
 
-pub returns-in-Ok-reopen : goal.returns-in-Ok-reopen
-returns-in-Ok-reopen g c =
+pub returns-in_ok-reopen-in-Reopen : goal.returns-in_ok-reopen-in-Reopen
+returns-in_ok-reopen-in-Reopen g c =
     let f = g.P.Plant.floor c.args.shift.now.below in
     let closed = closed_list c.args.shift.now in
     let rows = c.args.rows.now in
     let back = c.args.back_rows.now in
     let routes = c.args.routes.now in
     let a = areas (length rows) (length c.args.queue.now) (length back) (length c.args.back_queue.now) (length routes) in
-    let P : Call → Type 0 = λ x. Makes (made g.P.Cost.CostKind.kind f a closed c.args.at x) c.args.at (Reopened c.in-Reopen.k) rows rows back back routes routes in
+    let P : Call → Type 0 = λ x. Makes (made g.P.Cost.CostKind.kind f a closed c.args.at x) c.args.at (Ok (Reopened c.in-Reopen.k)) rows rows back back routes routes in
     record {
-      makes = subst P (sym c.in-Reopen.is) (shift_accepts c.args.at rows rows back back routes c.requires (reopen_fault (length f.lanes) closed c.in-Reopen.k) (Reopened c.in-Reopen.k) c.in-Ok-reopen.ensures.fault);
-      closed = c.in-Ok-reopen.ensures.closed;
-      below = c.in-Ok-reopen.ensures.below;
+      makes = subst P (sym c.in-Reopen.is) (shift_accepts c.args.at rows rows back back routes c.requires (reopen_fault (length f.lanes) closed c.in-Reopen.k) (Ok (Reopened c.in-Reopen.k)) c.in_ok-reopen-in-Reopen.ensures.fault);
+      closed = c.in_ok-reopen-in-Reopen.ensures.closed;
+      below = c.in_ok-reopen-in-Reopen.ensures.below;
     }
 
-pub returns-in-Err-reopen : goal.returns-in-Err-reopen
-returns-in-Err-reopen g c =
+pub returns-in_err-reopen-in-Reopen : goal.returns-in_err-reopen-in-Reopen
+returns-in_err-reopen-in-Reopen g c =
     let f = g.P.Plant.floor c.args.shift.now.below in
     let closed = closed_list c.args.shift.now in
     let rows = c.args.rows.now in
     let back = c.args.back_rows.now in
     let routes = c.args.routes.now in
     let a = areas (length rows) (length c.args.queue.now) (length back) (length c.args.back_queue.now) (length routes) in
-    let P : Call → Type 0 = λ x. Makes (made g.P.Cost.CostKind.kind f a closed c.args.at x) c.args.at (Refused (Shift c.in-Err-reopen.x)) rows rows back back routes routes in
+    let P : Call → Type 0 = λ x. Makes (made g.P.Cost.CostKind.kind f a closed c.args.at x) c.args.at c.from_residual-in_err-reopen-in-Reopen.result rows rows back back routes routes in
     record {
-      makes = subst P (sym c.in-Reopen.is) (shift_refuses c.args.at rows rows back back routes c.requires (reopen_fault (length f.lanes) closed c.in-Reopen.k) (Reopened c.in-Reopen.k) c.in-Err-reopen.x c.in-Err-reopen.ensures.fault);
-      closed = ap closed_list c.in-Err-reopen.ensures.closed;
-      below = c.in-Err-reopen.ensures.below;
+      makes = subst P (sym c.in-Reopen.is) (shift_refuses c.args.at rows rows back back routes c.requires (reopen_fault (length f.lanes) closed c.in-Reopen.k) (Ok (Reopened c.in-Reopen.k)) c.in_err-reopen-in-Reopen.field-0.0 c.in_err-reopen-in-Reopen.ensures.fault c.from_residual-in_err-reopen-in-Reopen.result c.from_residual-in_err-reopen-in-Reopen.ensures.1);
+      closed = ap closed_list c.in_err-reopen-in-Reopen.ensures.closed ∙ sym (ap (closed_after closed) (refused c.from_residual-in_err-reopen-in-Reopen.result (Shift c.in_err-reopen-in-Reopen.field-0.0) c.from_residual-in_err-reopen-in-Reopen.ensures.1));
+      below = c.in_err-reopen-in-Reopen.ensures.below;
     }
 
 pub returns-in-One : goal.returns-in-One

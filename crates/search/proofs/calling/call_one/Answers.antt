@@ -1,18 +1,20 @@
-use Rattle.std.proofs.Common.{◌≡◌, ◌-◌, ◌≤◌, [], length, take, drop, refl, ap, ◌∙◌, arith, length-drop}
+use Rattle.std.proofs.Common.{◌≡◌, ◌-◌, ◌≤◌, [], length, take, drop, Ok, refl, ap, ◌∙◌, arith, length-drop}
 use Rattle.std.proofs.lemmas.Slice.{between_to_end}
 use Rattle.plant.specs.Closed.{among, shut}
 use Rattle.plant.specs.Shifted.{closed_list}
 use Rattle.search.specs.declared.call.Call.TheVariants.{One}
+use Rattle.search.specs.declared.reply.Done.TheVariants.{Searched as Told}
 use Rattle.search.specs.Calls.{areas}
+use Rattle.search.specs.Faults.{search_fault}
 use Rattle.search.specs.Life.{too_short}
 use Rattle.search.specs.OneWay.{one_way, one_route}
-use Rattle.search.specs.Served.{answer, one_told, search_fault}
+use Rattle.search.specs.Served.{answer}
 use Rattle.search.proofs.AnswerFacts.{written}
 use Rattle.search.proofs.MadeFacts.{search_accepts, search_refuses, enough_rows, one_fault, one_replied}
 use Rattle.search.proofs.calling.call_one.Goals as goal
 
-pub returns-in-Ok : goal.returns-in-Ok
-returns-in-Ok g c =
+pub returns : goal.returns
+returns g c =
     let k = g.P.Cost.CostKind.kind in
     let f = g.P.Plant.floor c.args.shift.now.below in
     let closed = closed_list c.args.shift.now in
@@ -25,16 +27,16 @@ returns-in-Ok g c =
     let routes = c.args.routes.now in
     let part = c.one_way.new.route in
     let a = areas (length rows) (length c.args.queue.now) 0 0 (length routes) in
-    let told = c.in-Ok.ensures in
+    let told = c.in_ok-answer.ensures in
     let left : length (take (length routes - at) (drop at routes)) ≡ length routes - at = ap length (between_to_end routes at (length routes) (omega arith)) ∙ length-drop at routes in
     let fault = told.fault ∙ one_fault k f closed s t a (length routes - at) _ left in
     let enough : f.nodes ≤ length rows = enough_rows f s t (length rows) _ fault in
     let near = written f.nodes rows' rows (one_way k F s t).rows (omega (arith, enough, c.one_way.auto.rows)) told.searched.rows_are told.searched.rows_past in
     search_accepts at rows rows' [] [] routes c.requires (search_fault f s t (too_short f a (length routes - at) (One s t))) (answer k F at (One s t) (one_way k F s t).cost (one_route k F s t)) part
-    c.tell_one.result fault (c.tell_one.ensures ∙ ap (one_told at) told.searched.answer_is ∙ one_replied k f closed s t at) near.1 refl told.searched.route_is c.one_way.auto.route
+    (Ok (Told c.counted.result at)) fault (one_replied k f closed s t at c.in_ok-answer.answer c.counted.result told.searched.answer_is c.counted.ensures.scanned c.counted.ensures.route) near.1 refl told.searched.route_is c.one_way.auto.route
 
-pub returns-in-Err : goal.returns-in-Err
-returns-in-Err g c =
+pub returns-in_err-answer : goal.returns-in_err-answer
+returns-in_err-answer g c =
     let k = g.P.Cost.CostKind.kind in
     let f = g.P.Plant.floor c.args.shift.now.below in
     let closed = closed_list c.args.shift.now in
@@ -45,8 +47,8 @@ returns-in-Err g c =
     let rows = c.args.rows.now in
     let routes = c.args.routes.now in
     let a = areas (length rows) (length c.args.queue.now) 0 0 (length routes) in
-    let told = c.in-Err.ensures in
+    let told = c.in_err-answer.ensures in
     let left : length (take (length routes - at) (drop at routes)) ≡ length routes - at = ap length (between_to_end routes at (length routes) (omega arith)) ∙ length-drop at routes in
     let fault = told.fault ∙ one_fault k f closed s t a (length routes - at) _ left in
     search_refuses at rows c.one_way.new.rows [] [] routes c.requires (search_fault f s t (too_short f a (length routes - at) (One s t))) (answer k F at (One s t) (one_way k F s t).cost (one_route k F s t)) c.one_way.new.route
-    c.in-Err.x fault told.searched.0 refl told.searched.2
+    c.in_err-answer.field-0.0 fault c.from_residual.result c.from_residual.ensures.1 told.searched.0 refl told.searched.2

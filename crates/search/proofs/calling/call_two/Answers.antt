@@ -1,18 +1,20 @@
-use Rattle.std.proofs.Common.{◌≡◌, ◌-◌, ◌≤◌, length, take, drop, ap, ◌∙◌, arith, length-drop}
+use Rattle.std.proofs.Common.{◌≡◌, ◌-◌, ◌≤◌, length, take, drop, Ok, ap, ◌∙◌, arith, length-drop}
 use Rattle.std.proofs.lemmas.Slice.{between_to_end}
 use Rattle.plant.specs.Closed.{among, shut}
 use Rattle.plant.specs.Shifted.{closed_list}
 use Rattle.search.specs.declared.call.Call.TheVariants.{Two}
+use Rattle.search.specs.declared.reply.Done.TheVariants.{Searched as Told}
 use Rattle.search.specs.Calls.{areas}
+use Rattle.search.specs.Faults.{search_fault}
 use Rattle.search.specs.Life.{too_short}
 use Rattle.search.specs.TwoWay.{two_way, two_route}
-use Rattle.search.specs.Served.{answer, two_told, search_fault}
+use Rattle.search.specs.Served.{answer}
 use Rattle.search.proofs.AnswerFacts.{written}
 use Rattle.search.proofs.MadeFacts.{search_accepts, search_refuses, enough_rows, enough_back, two_fault_is, two_replied}
 use Rattle.search.proofs.calling.call_two.Goals as goal
 
-pub returns-in-Ok : goal.returns-in-Ok
-returns-in-Ok g c =
+pub returns : goal.returns
+returns g c =
     let k = g.P.Cost.CostKind.kind in
     let f = g.P.Plant.floor c.args.shift.now.below in
     let closed = closed_list c.args.shift.now in
@@ -27,7 +29,7 @@ returns-in-Ok g c =
     let routes = c.args.routes.now in
     let part = c.two_way.new.route in
     let a = areas (length rows) (length c.args.queue.now) (length back) (length c.args.back_queue.now) (length routes) in
-    let told = c.in-Ok.ensures in
+    let told = c.in_ok-answer.ensures in
     let left : length (take (length routes - at) (drop at routes)) ≡ length routes - at = ap length (between_to_end routes at (length routes) (omega arith)) ∙ length-drop at routes in
     let fault = told.fault ∙ two_fault_is k f closed s t a (length routes - at) _ left in
     let enough : f.nodes ≤ length rows = enough_rows f s t (length rows) _ fault in
@@ -35,10 +37,10 @@ returns-in-Ok g c =
     let near = written f.nodes rows' rows (two_way k F s t).near.rows (omega (arith, enough, c.two_way.auto.rows)) told.searched.rows_are told.searched.rows_past in
     let far = written f.nodes back' back (two_way k F s t).far.rows (omega (arith, enough', c.two_way.auto.back)) told.searched.back_are told.searched.back_past in
     search_accepts at rows rows' back back' routes c.requires (search_fault f s t (too_short f a (length routes - at) (Two s t))) (answer k F at (Two s t) (two_way k F s t).met.cost (two_route k F s t)) part
-    c.tell_two.result fault (c.tell_two.ensures ∙ ap (two_told at) told.searched.answer_is ∙ two_replied k f closed s t at) near.1 far.1 told.searched.route_is c.two_way.auto.route
+    (Ok (Told c.counted.result at)) fault (two_replied k f closed s t at c.in_ok-answer.answer c.counted.result told.searched.answer_is c.counted.ensures.scanned c.counted.ensures.route) near.1 far.1 told.searched.route_is c.two_way.auto.route
 
-pub returns-in-Err : goal.returns-in-Err
-returns-in-Err g c =
+pub returns-in_err-answer : goal.returns-in_err-answer
+returns-in_err-answer g c =
     let k = g.P.Cost.CostKind.kind in
     let f = g.P.Plant.floor c.args.shift.now.below in
     let closed = closed_list c.args.shift.now in
@@ -50,8 +52,8 @@ returns-in-Err g c =
     let back = c.args.back_rows.now in
     let routes = c.args.routes.now in
     let a = areas (length rows) (length c.args.queue.now) (length back) (length c.args.back_queue.now) (length routes) in
-    let told = c.in-Err.ensures in
+    let told = c.in_err-answer.ensures in
     let left : length (take (length routes - at) (drop at routes)) ≡ length routes - at = ap length (between_to_end routes at (length routes) (omega arith)) ∙ length-drop at routes in
     let fault = told.fault ∙ two_fault_is k f closed s t a (length routes - at) _ left in
     search_refuses at rows c.two_way.new.rows back c.two_way.new.back routes c.requires (search_fault f s t (too_short f a (length routes - at) (Two s t))) (answer k F at (Two s t) (two_way k F s t).met.cost (two_route k F s t)) c.two_way.new.route
-    c.in-Err.x fault told.searched.0 told.searched.1 told.searched.4
+    c.in_err-answer.field-0.0 fault c.from_residual.result c.from_residual.ensures.1 told.searched.0 told.searched.1 told.searched.4

@@ -11,7 +11,7 @@ returns-then-at_most g c =
     let f = g.P.Plant.floor c.args.plant.now in
     let ran = c.run-cost.ensures in
     let far : k.at_most k.beyond (one_way k f c.args.start c.args.goal).cost ≡ true = (λ i. k.at_most (sym c.beyond.ensures i) (sym ran.cost i)) ∙ sym c.if-at_most.ensures in
-    let told = beyond_answer k f c.args.start c.args.goal c.run-cost.result.scanned c.args.route.now far (ran.scanned ∙ ap (λ (xs : List (Row g.row.P-Cost.Denot)). count_scanned xs) ran.rows) in
+    let told = beyond_answer k (one_route k f c.args.start c.args.goal) c.run-cost.result.scanned c.args.route.now far (ran.scanned ∙ ap (λ (xs : List (Row g.row.P-Cost.Denot)). count_scanned xs) ran.rows) in
     record { rows = ran.rows; answer = told.0; route = told.1 }
 
 pub returns : goal.returns
@@ -26,5 +26,5 @@ returns g c =
     let same : trace k f start c.run-cost.new.rows f.nodes goal [] ≡ one_route k f start goal = ap (λ (xs : List (Row g.row.P-Cost.Denot)). trace k f start xs f.nodes goal []) ran.rows in
     let fits : c.write_route-nodes.result ≤ length c.write_route-nodes.new.route = omega (arith, wrote.count, c.write_route-nodes.auto.route, c.requires.route, c.requires.rows, c.run-cost.auto.rows) in
     let put = written c.write_route-nodes.result c.write_route-nodes.new.route c.args.route.now (one_route k f start goal) fits (wrote.wrote ∙ same) wrote.kept in
-    let told = route_answer k f start goal c.run-cost.result.cost c.run-cost.result.scanned c.write_route-nodes.result c.write_route-nodes.new.route c.args.route.now near ran.cost (ran.scanned ∙ ap (λ (xs : List (Row g.row.P-Cost.Denot)). count_scanned xs) ran.rows) put.0 put.1 in
+    let told = route_answer k (one_route k f start goal) c.run-cost.result.cost c.run-cost.result.scanned c.write_route-nodes.result c.write_route-nodes.new.route c.args.route.now near ran.cost (ran.scanned ∙ ap (λ (xs : List (Row g.row.P-Cost.Denot)). count_scanned xs) ran.rows) put.0 put.1 in
     record { rows = ran.rows; answer = told.0; route = told.1 }

@@ -1,7 +1,11 @@
 use Rattle.std.proofs.Common.{◌≡◌, ◌-◌, ◌<◌, ◌≤◌, length, ◌∙◌, arith}
 use Rattle.std.proofs.lemmas.List.{length-take-le}
 use Rattle.std.proofs.lemmas.Slice.{take-put_mid, drop-put_mid}
-use Rattle.search.proofs.AnswerFacts.{no_fault, right_of}
+use Rattle.search.specs.Steps.{count_scanned}
+use Rattle.search.specs.OneWay.{one_way}
+use Rattle.search.proofs.AnswerFacts.{right_of}
+use Rattle.search.proofs.FaultFacts.{node_in, room_in, past_none}
+use Rattle.search.specs.declared.fault.SearchFault.TheVariants.{Start, Goal, Rows}
 use Rattle.search.proofs.Answers.{one_way_right}
 use Rattle.search.proofs.one_way.one_way.Goals as goal
 
@@ -13,25 +17,23 @@ returns g c =
     let start = c.args.start in
     let goal = c.args.goal in
     let fl = (g.met.P.Plant.lawful c.args.plant.now) in
-    let counts = c.node_count-nodes.ensures in
+    let counts = c.node_count-n.ensures in
     let xs = c.args.rows.now in
     let ys = c.find.new.rows in
-    let n = c.node_count-nodes.result in
-    let a : start < f.nodes = omega (arith, c.if-start-nodes.false, counts) in
-    let b : goal < f.nodes = omega (arith, c.if-goal-nodes.false, counts) in
-    let rows : f.nodes ≤ length xs = omega (arith, c.if-rows-n.false, counts) in
-    let entries : length f.lanes < length c.args.queue.now = omega (arith, c.if-queue-lane_count.false, c.lane_count.ensures) in
-    let places : f.nodes ≤ length c.args.route.now = omega (arith, c.if-route-n.false, counts) in
+    let n = c.node_count-n.result in
+    let a = node_in f start (Start start) c.in_ok-check_node.ensures in
+    let b = node_in f goal (Goal goal) c.in_ok-check_node-2.ensures in
+    let rows = room_in f (length xs) Rows c.in_ok-check_room.ensures in
     let found = c.find.ensures in
     let long : length ys ≡ n - 0 = c.find.auto.rows ∙ length-take-le (n - 0) xs (omega (arith, rows, counts)) in
     let kept = take-put_mid 0 (n - 0) xs ys f.nodes (omega (arith, long, counts)) (omega arith) ∙ found.rows in
     record {
-      fault = no_fault f start goal (length xs) (length c.args.queue.now) (length c.args.route.now) a b rows entries places;
+      fault = past_none c.in_ok-check_node.ensures (past_none c.in_ok-check_node-2.ensures (past_none c.in_ok-check_room.ensures (past_none c.in_ok-check_queue.ensures c.in_ok-check_room-2.ensures)));
       searched = record {
         rows_are = kept;
         rows_past = drop-put_mid 0 (n - 0) xs ys f.nodes (omega (arith, counts)) (omega arith) long;
         answer_is = found.answer;
         route_is = found.route;
       };
-      right = right_of k f start goal laws (one_way_right laws fl a b) c.find.result c.args.route.now c.find.new.route _ found.answer found.route kept;
+      right = right_of k f start goal laws (one_way_right laws fl a b) (count_scanned (one_way k f start goal).rows) c.find.result c.args.route.now c.find.new.route _ found.answer found.route kept;
     }

@@ -2,7 +2,7 @@ use Rattle.std.proofs.Common.{◌≡◌, ◌+◌, ◌<◌, ◌≤◌, List, leng
 use Rattle.std.proofs.lemmas.List.{drop_more}
 use Rattle.plant.specs.Shifted.{closed_list}
 use Rattle.search.specs.declared.call.Call.TheVariants.{Close}
-use Rattle.search.specs.declared.reply.Reply.{Reply}
+use Rattle.search.specs.Calls.{Reply}
 use Rattle.search.specs.Calls.{areas}
 use Rattle.search.specs.Serving.{Serving}
 use Rattle.search.proofs.ServeFacts.{made-same, serving_none, serving_more, serving_fits, all_replies, all_routes, all_closed, all_near, all_far}

@@ -4,7 +4,9 @@ use Rattle.std.proofs.lemmas.Slice.{take-put_mid, drop-put_mid}
 use Rattle.search.specs.Survey.{survey}
 use Rattle.search.specs.Surveyed.{CostsLeast}
 use Rattle.search.proofs.LeastCosts.{least_exist}
-use Rattle.search.proofs.SurveyFacts.{costs_least, no_survey_fault}
+use Rattle.search.proofs.SurveyFacts.{costs_least}
+use Rattle.search.proofs.FaultFacts.{node_in, room_in, past_none}
+use Rattle.search.specs.declared.fault.SearchFault.TheVariants.{Start, Rows}
 use Rattle.search.proofs.survey.survey_from.Goals as goal
 
 pub returns : goal.returns
@@ -14,19 +16,17 @@ returns g c =
     let f = g.P.Plant.floor c.args.plant.now in
     let start = c.args.start in
     let fl = (g.met.P.Plant.lawful c.args.plant.now) in
-    let counts = c.node_count-nodes.ensures in
+    let counts = c.node_count-n.ensures in
     let xs = c.args.rows.now in
     let ys = c.explore.new.rows in
-    let n = c.node_count-nodes.result in
-    let a : start < f.nodes = omega (arith, c.if-start-nodes.false, counts) in
-    let rows : f.nodes ≤ length xs = omega (arith, c.if-rows-n.false, counts) in
-    let entries : length f.lanes < length c.args.queue.now = omega (arith, c.if-queue-lane_count.false, c.lane_count.ensures) in
-    let costs : f.nodes ≤ length c.args.costs.now = omega (arith, c.if-costs-n.false, counts) in
+    let n = c.node_count-n.result in
+    let a = node_in f start (Start start) c.in_ok-check_node.ensures in
+    let rows = room_in f (length xs) Rows c.in_ok-check_room.ensures in
     let told = c.explore.ensures in
     let long : length ys ≡ n - 0 = c.explore.auto.rows ∙ length-take-le (n - 0) xs (omega (arith, rows, counts)) in
     let whole : length (survey k f start) ≡ f.nodes = sym (ap length told.rows) ∙ long ∙ (omega (arith, counts)) in
     record {
-      fault = no_survey_fault f start (length xs) (length c.args.queue.now) (length c.args.costs.now) a rows entries costs;
+      fault = past_none c.in_ok-check_node.ensures (past_none c.in_ok-check_room.ensures (past_none c.in_ok-check_queue.ensures c.in_ok-check_room-2.ensures));
       surveyed = record {
         rows_are = take-put_mid 0 (n - 0) xs ys f.nodes (omega (arith, long, counts)) (omega arith) ∙ told.rows;
         rows_past = drop-put_mid 0 (n - 0) xs ys f.nodes (omega (arith, counts)) (omega arith) long;

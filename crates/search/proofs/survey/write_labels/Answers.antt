@@ -11,7 +11,10 @@ loop-i-preserved g c =
     let rows = c.args.rows.now in
     let i = c.loop-i.i in
     let lt : i < length c.args.costs.now = omega (arith, c.requires, c.loop-i-test.true) in
-    ap (λ (l : List g.row.C.Denot). set l i (get_or rows i c.index-rows-i.result).label) c.loop-i.invariant ∙ sym (onto_labels rows c.args.costs.now i c.index-rows-i.result c.loop-i-test.true lt)
+    let item = c.index-rows-i.result in
+    ap (λ (l : List g.row.C.Denot). set l i item.label) c.loop-i.invariant
+    ∙ ap (λ (r : Row g.row.C.Denot). set (onto (map label_of (take i rows)) c.args.costs.now) i r.label) c.index-rows-i.is
+    ∙ sym (onto_labels rows c.args.costs.now i c.index-rows-i.result c.loop-i-test.true lt)
 
 pub returns : goal.returns
 returns g c =

@@ -1,9 +1,12 @@
 use Rattle.std.proofs.Common.{◌≡◌, ℕ, ◌^◌, ◌<◌, true, false, List, length, sym, ap, ◌∙◌, arith, rules}
+use Rattle.search.specs.declared.answer.Both.{Both}
 use Rattle.search.specs.declared.row.Row.{Row}
+use Rattle.search.specs.SearchedBoth.{both_scanned}
 use Rattle.search.specs.Lists.{onto}
 use Rattle.search.specs.Steps.{count_scanned}
 use Rattle.search.specs.TwoWay.{joined, two_way, two_route}
-use Rattle.search.proofs.BothFacts.{beyond_told, route_told, nodes_short}
+use Rattle.search.proofs.AnswerFacts.{beyond_answer, route_answer}
+use Rattle.search.proofs.BothFacts.{nodes_short}
 use Rattle.search.proofs.two_way.find_both.Goals as goal
 
 pub returns-then-at_most : goal.returns-then-at_most
@@ -18,7 +21,8 @@ returns-then-at_most g c =
     let theirs = c.scanned_of-theirs.ensures ∙ ap (λ (xs : List (Row g.row.P-Cost.Denot)). count_scanned xs) ran.back in
     let far : k.at_most k.beyond (two_way k f start goal).met.cost ≡ true =
     (λ i. k.at_most (sym c.beyond.ensures i) (sym ran.met i).cost) ∙ sym c.if-at_most.ensures in
-    let told = beyond_told k f start goal c.scanned_of-ours.result c.scanned_of-theirs.result c.args.route.now far ours theirs in
+    let scanned : ◌≡◌ {A = Both} (record { forward = c.scanned_of-ours.result; back = c.scanned_of-theirs.result }) (both_scanned k f start goal) = λ i. record { forward = ours i; back = theirs i } in
+    let told = beyond_answer k (two_route k f start goal) (record { forward = c.scanned_of-ours.result; back = c.scanned_of-theirs.result }) c.args.route.now far scanned in
     record { rows = ran.rows; back = ran.back; answer = told.0; route = told.1 }
 
 pub write_both-nodes-requires : goal.write_both-nodes-requires
@@ -74,5 +78,6 @@ returns g c =
     let ours = c.scanned_of-ours.ensures ∙ ap (λ (xs : List (Row g.row.P-Cost.Denot)). count_scanned xs) ran.rows in
     let theirs = c.scanned_of-theirs.ensures ∙ ap (λ (xs : List (Row g.row.P-Cost.Denot)). count_scanned xs) ran.back in
     let wrote = c.write_both-nodes.ensures in
-    let told = route_told k f start goal c.run_both-cost.result.cost c.scanned_of-ours.result c.scanned_of-theirs.result c.write_both-nodes.result c.write_both-nodes.new.route c.args.route.now near (λ i. (ran.met i).cost) ours theirs (wrote.count ∙ ap length same) (wrote.wrote ∙ ap (λ (xs : List ℕ). onto xs c.args.route.now) same) in
+    let scanned : ◌≡◌ {A = Both} (record { forward = c.scanned_of-ours.result; back = c.scanned_of-theirs.result }) (both_scanned k f start goal) = λ i. record { forward = ours i; back = theirs i } in
+    let told = route_answer k (two_route k f start goal) c.run_both-cost.result.cost (record { forward = c.scanned_of-ours.result; back = c.scanned_of-theirs.result }) c.write_both-nodes.result c.write_both-nodes.new.route c.args.route.now near (λ i. (ran.met i).cost) scanned (wrote.count ∙ ap length same) (wrote.wrote ∙ ap (λ (xs : List ℕ). onto xs c.args.route.now) same) in
     record { rows = ran.rows; back = ran.back; answer = told.0; route = told.1 }

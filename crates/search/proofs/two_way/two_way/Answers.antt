@@ -1,7 +1,9 @@
 use Rattle.std.proofs.Common.{◌≡◌, ◌-◌, ◌<◌, ◌≤◌, length, ◌∙◌, arith}
 use Rattle.std.proofs.lemmas.List.{length-take-le}
 use Rattle.std.proofs.lemmas.Slice.{take-put_mid, drop-put_mid}
-use Rattle.search.proofs.BothFacts.{no_two_fault, right_both}
+use Rattle.search.proofs.BothFacts.{right_both}
+use Rattle.search.proofs.FaultFacts.{node_in, room_in, past_none}
+use Rattle.search.specs.declared.fault.SearchFault.TheVariants.{Start, Goal, Rows}
 use Rattle.search.proofs.two_way.two_way.Goals as goal
 
 pub returns : goal.returns
@@ -12,26 +14,23 @@ returns g c =
     let start = c.args.start in
     let goal = c.args.goal in
     let fl = (g.met.P.Plant.lawful c.args.plant.now) in
-    let counts = c.node_count-nodes.ensures in
-    let n = c.node_count-nodes.result in
+    let counts = c.node_count-n.ensures in
+    let n = c.node_count-n.result in
     let xs = c.args.rows.now in
     let ys = c.find_both.new.rows in
     let xs' = c.args.back.now in
     let ys' = c.find_both.new.back in
-    let a : start < f.nodes = omega (arith, c.if-start-nodes.false, counts) in
-    let b : goal < f.nodes = omega (arith, c.if-goal-nodes.false, counts) in
-    let rows : f.nodes ≤ length xs = omega (arith, c.if-rows-n.false, counts) in
-    let rows' : f.nodes ≤ length xs' = omega (arith, c.if-back-n.false, counts) in
-    let entries : length f.lanes < length c.args.queue.now = omega (arith, c.if-queue-lanes.false, c.lane_count-lanes.ensures) in
-    let entries' : length f.lanes < length c.args.back_queue.now = omega (arith, c.if-back_queue-lanes.false, c.lane_count-lanes.ensures) in
-    let places : f.nodes ≤ length c.args.route.now = omega (arith, c.if-route-n.false, counts) in
+    let a = node_in f start (Start start) c.in_ok-check_node.ensures in
+    let b = node_in f goal (Goal goal) c.in_ok-check_node-2.ensures in
+    let rows = room_in f (length xs) Rows c.in_ok-check_room.ensures in
+    let rows' = room_in f (length xs') Rows c.in_ok-check_room-2.ensures in
     let found = c.find_both.ensures in
     let long : length ys ≡ n - 0 = c.find_both.auto.rows ∙ length-take-le (n - 0) xs (omega (arith, rows, counts)) in
     let long' : length ys' ≡ n - 0 = c.find_both.auto.back ∙ length-take-le (n - 0) xs' (omega (arith, rows', counts)) in
     let kept = take-put_mid 0 (n - 0) xs ys f.nodes (omega (arith, long, counts)) (omega arith) ∙ found.rows in
     let kept' = take-put_mid 0 (n - 0) xs' ys' f.nodes (omega (arith, long', counts)) (omega arith) ∙ found.back in
     record {
-      fault = no_two_fault f start goal (length xs) (length xs') (length c.args.queue.now) (length c.args.back_queue.now) (length c.args.route.now) a b rows rows' entries entries' places;
+      fault = past_none c.in_ok-check_node.ensures (past_none c.in_ok-check_node-2.ensures (past_none c.in_ok-check_room.ensures (past_none c.in_ok-check_room-2.ensures (past_none c.in_ok-check_queue.ensures (past_none c.in_ok-check_queue-2.ensures c.in_ok-check_room-3.ensures)))));
       searched = record {
         rows_are = kept;
         rows_past = drop-put_mid 0 (n - 0) xs ys f.nodes (omega (arith, counts)) (omega arith) long;

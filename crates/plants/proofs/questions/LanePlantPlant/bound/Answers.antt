@@ -1,11 +1,12 @@
 -- The best after the last landmark is the greatest that any shows.
-use Rattle.std.proofs.Common.{◌≡◌, ℕ, ◌+◌, ◌*◌, ◌<◌, ◌≤◌, max, ◌⊎◌, sym, ap, ◌∙◌, inl, inr, add-one, arith, rules}
-use Rattle.std.proofs.lemmas.Nat.{mul-add-lt}
-use Rattle.plants.specs.Columns.{columns}
+use Rattle.std.proofs.Common.{◌≡◌, ◌+◌, ◌-◌, ◌<◌, ◌≤◌, max, ◌⊎◌, get_or, sym, refl, ap, ◌∙◌, inl, inr, ⊎_elim, add-one, arith, rules}
+use Rattle.std.proofs.lemmas.Grind.{common_steps}
+use Rattle.plants.specs.Columns.{columns, row}
 use Rattle.plants.specs.Laid.{greatest, shown}
 use Rattle.plants.specs.Lawful.{kept}
 use Rattle.plants.specs.Lanes.{metres_is}
-use Rattle.plants.specs.Bounds.{bound_inside, bound_none, shown_at}
+use Rattle.plants.specs.Bounds.{bound_inside, bound_none}
+use Rattle.plants.proofs.Landmarks.{rows_end, row_next, row_part, rest_next}
 use Rattle.plants.proofs.questions.LanePlantPlant.bound.Goals as goal
 use Rattle.plants.proofs.questions.LanePlantPlant.bound.Goals.{then-v-self-via-then-v-self, then-v-self-via-else-v-self+then-w-self}
 
@@ -16,33 +17,54 @@ returns-then-v-self c =
     elim c.then-v-self.branch [ then-v-self-via-then-v-self w ↦ inl w.if-v-self.true | then-v-self-via-else-v-self+then-w-self w ↦ inr w.if-w-self.true ] in
     metres_is c.from.result 0 c.from.ensures ∙ sym (bound_none p.nodes p.landmarks (columns p.lists) c.args.v c.args.w past)
 
--- the place of a node in a landmark's row is in the whole table
-in_table : (nodes landmarks m v : ℕ) → m < landmarks → v < nodes → m * nodes + v < landmarks * nodes
-in_table nodes landmarks m v lm lv = omega (arith, mul-add-lt m nodes v landmarks lm lv)
+pub loop-to-init : goal.loop-to-init
+loop-to-init c = record {
+  m = 0;
+  passed = omega arith;
+  to_size = search rules;
+  to = grind (arith, common_steps);
+  from_size = search rules;
+  from = grind (arith, common_steps);
+  best = refl;
+}
 
-pub gap-requires : goal.gap-requires
-gap-requires c =
+pub loop-to-preserved : goal.loop-to-preserved
+loop-to-preserved c =
     let p = c.args.self.now in
-    let s = kept p in
-    let v-in = in_table p.nodes p.landmarks c.loop-m.m c.args.v c.loop-m-test.true c.if-v-self.false in
-    let w-in = in_table p.nodes p.landmarks c.loop-m.m c.args.w c.loop-m-test.true c.if-w-self.false in
-    let to_size = s.to_size in
-    let from_size = s.from_size in
-    record { to = (omega arith, omega arith); from = (omega arith, omega arith) }
-
-pub loop-m-preserved : goal.loop-m-preserved
-loop-m-preserved c =
-    let p = c.args.self.now in
-    let m = c.loop-m.m in
-    let f = shown p.nodes (columns p.lists) c.args.v c.args.w in
-    let here : c.gap.result ≡ f m = c.gap.ensures ∙ sym (shown_at p.nodes p.landmarks (columns p.lists) c.args.v c.args.w m c.if-v-self.false c.if-w-self.false) in
-    let best : c.max-best.result ≡ max c.loop-m.best c.gap.result = search rules in
-    best ∙ (λ i. max (c.loop-m.invariant i) (here i)) ∙ sym (ap (greatest f) (add-one m))
+    let n = p.nodes in
+    let l = columns p.lists in
+    let k = kept p in
+    let i = c.loop-to.invariant in
+    let s = c.in-Some.ensures.steps in
+    let f = shown n l c.args.v c.args.w in
+    let to : c.in-Some.to.now ≡ row n l.to i.m = row_part n p.landmarks i.m l.to _ k.some k.to_size i.to c.in-Some.to.now _ s.0.1.0 (s.0.1.1 ∙ i.to_size) in
+    let from : c.in-Some.from.now ≡ row n l.from i.m = row_part n p.landmarks i.m l.from _ k.some k.from_size i.from c.in-Some.from.now _ s.1.1.0 (s.1.1.1 ∙ i.from_size) in
+    let lt : i.m < p.landmarks = row_next n p.landmarks i.m l.to _ k.some k.to_size i.to c.in-Some.to.now _ s.0.1.0 (s.0.1.1 ∙ i.to_size) in
+    let here : c.gap.result ≡ f i.m = c.gap.ensures ∙ (λ j. max (get_or (to j) c.args.v 0 - get_or (to j) c.args.w 0) (get_or (from j) c.args.w 0 - get_or (from j) c.args.v 0)) in
+    let best : c.max-best.result ≡ max c.loop-to.best c.gap.result = search rules in
+    record {
+      m = i.m + 1;
+      passed = omega arith;
+      to_size = s.0.0 ∙ i.to_size;
+      to = rest_next n p.landmarks i.m l.to _ k.some k.to_size i.to c.in-Some.to.now _ s.0.1.0 (s.0.1.1 ∙ i.to_size);
+      from_size = s.1.0 ∙ i.from_size;
+      from = rest_next n p.landmarks i.m l.from _ k.some k.from_size i.from c.in-Some.from.now _ s.1.1.0 (s.1.1.1 ∙ i.from_size);
+      best = best ∙ (λ j. max (i.best j) (here j)) ∙ sym (ap (greatest f) (add-one i.m));
+    }
 
 pub returns : goal.returns
 returns c =
     let p = c.args.self.now in
-    let f = shown p.nodes (columns p.lists) c.args.v c.args.w in
-    let last : c.loop-m.m ≡ p.landmarks = omega (arith, c.loop-m.auto.m-end, c.loop-m-test.false) in
-    metres_is c.from-2.result (greatest f p.landmarks) (c.from-2.ensures ∙ c.loop-m.invariant ∙ ap (greatest f) last)
-    ∙ sym (bound_inside p.nodes p.landmarks (columns p.lists) c.args.v c.args.w c.if-v-self.false c.if-w-self.false)
+    let n = p.nodes in
+    let l = columns p.lists in
+    let k = kept p in
+    let i = c.loop-to.invariant in
+    let f = shown n l c.args.v c.args.w in
+    let all : p.landmarks ≤ i.m =
+    ⊎_elim
+    (λ x. rows_end n p.landmarks i.m l.to _ k.some k.to_size i.to (omega (arith, x.1.1.0, i.to_size)))
+    (λ x. rows_end n p.landmarks i.m l.from _ k.some k.from_size i.from (omega (arith, x.1.1.0, i.from_size)))
+    c.in-None.ensures.steps in
+    let last : i.m ≡ p.landmarks = omega (arith, all, i.passed) in
+    metres_is c.from-2.result (greatest f p.landmarks) (c.from-2.ensures ∙ i.best ∙ ap (greatest f) last)
+    ∙ sym (bound_inside n p.landmarks l c.args.v c.args.w c.if-v-self.false c.if-w-self.false)

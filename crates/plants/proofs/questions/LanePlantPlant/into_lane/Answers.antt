@@ -1,23 +1,19 @@
 -- The lanes into a node stand in one row of the lanes by head, from its place in the first-in list to the next.
-use Rattle.std.proofs.Common.{sym, arith}
+use Rattle.std.proofs.Common.{sym, ◌∙◌, arith}
 use Rattle.plants.specs.Lawful.{kept}
-use Rattle.plants.proofs.Ends.{into_rises, into_within, into_at, into_past, into_outside}
+use Rattle.plants.proofs.Ends.{into_within, into_some, into_none}
 use Rattle.plants.proofs.questions.LanePlantPlant.into_lane.Goals as goal
 
-pub returns-then-v-self : goal.returns-then-v-self
-returns-then-v-self c = sym (into_outside _ _ _ (kept c.args.self.now) c.args.v c.args.j c.if-v-self.true)
+pub returns-in_err-place : goal.returns-in_err-place
+returns-in_err-place c = c.from_residual.ensures ∙ sym (into_none _ _ _ (kept c.args.self.now) c.args.v c.args.j c.in_err-place.ensures.none)
 
-pub overflow_sub-past : goal.overflow_sub-past
-overflow_sub-past c = into_rises _ _ _ (kept c.args.self.now) c.args.v c.if-v-self.false
+pub bounds-self-place : goal.bounds-self-place
+bounds-self-place c =
+    let s = kept c.args.self.now in
+    let p = c.in_ok-place.ensures.some in
+    omega (arith, p.0, p.2, into_within _ _ _ s c.args.v (omega (arith, p.0, s.ins_size)))
 
-pub bounds-lists-from : goal.bounds-lists-from
-bounds-lists-from c =
-    let within = into_within _ _ _ (kept c.args.self.now) c.args.v c.if-v-self.false in
-    let here = c.if-j-past.true in
-    omega arith
-
-pub returns-then-j-past : goal.returns-then-j-past
-returns-then-j-past c = sym (into_at _ _ _ (kept c.args.self.now) c.args.v c.args.j c.if-v-self.false c.if-j-past.true)
-
-pub returns-else-j-past : goal.returns-else-j-past
-returns-else-j-past c = sym (into_past _ _ _ (kept c.args.self.now) c.args.v c.args.j c.if-v-self.false c.if-j-past.false)
+pub returns : goal.returns
+returns c =
+    let p = c.in_ok-place.ensures.some in
+    sym (into_some _ _ _ (kept c.args.self.now) c.args.v c.args.j c.in_ok-place.place p.0 p.1 p.2)

@@ -1,15 +1,11 @@
-use Rattle.std.proofs.Common.{◌<◌, reverse, length, take, sym, refl, ap, ◌∙◌, arith}
-use Rattle.plant.specs.Shifted.{closed_list}
-use Rattle.plant.proofs.Among.{without-reverse}
-use Rattle.plant.proofs.ShiftFacts.{reopen_none}
+use Rattle.std.proofs.Common.{not, eqb, reverse, sym, ap, ◌∙◌, rules}
+use Rattle.arrayvec.proofs.ArrayVecLemmas.{filter-from_retain}
+use Rattle.plant.proofs.Among.{without_filter, without-reverse}
 use Rattle.plant.proofs.layers.shift.Shift.reopen.Goals as goal
 
-pub returns : goal.returns
-returns g c =
-    let s = c.args.self.now in
-    let lt : c.args.k < length (g.P.Plant.floor s.below).lanes = omega (arith, c.lane_count.ensures, c.if-k-lane_count.false) in
-    record {
-      fault = reopen_none _ (closed_list s) c.args.k lt (sym c.is_closed.ensures ∙ c.if-not-is_closed.false);
-      below = refl;
-      closed = ap reverse c.keep_others-m.ensures.kept ∙ sym (without-reverse c.args.k (take s.count s.closed));
-    }
+pub returns-clause-closed : goal.returns-clause-closed
+returns-clause-closed g c =
+    let k = c.args.k in
+    let xs = c.args.self.now.closed.items in
+    ap reverse (filter-from_retain _ (λ x. not (eqb x k)) _ (λ x b f' y h. search rules) _ _ c.retain.ensures.filtered ∙ sym (without_filter k xs))
+    ∙ sym (without-reverse k xs)

@@ -1,0 +1,13 @@
+use Rattle.format.specs.Items.{opens}
+use Rattle.format.proofs.Taking.{passes_open, passes_word, some_past, none_past}
+use Rattle.format.proofs.cursor.Cursor.open.Goals as goal
+
+pub returns-in_err-pass : goal.returns-in_err-pass
+returns-in_err-pass c ts h =
+    let o = none_past c.pass.new.self (opens ts) (passes_open c.pass.new.self ts _ (c.in_err-pass.ensures ts h)) in
+    rw (c.from_residual.ensures, o) tt
+
+pub returns : goal.returns
+returns c ts h =
+    let o = some_past c.pass.new.self (opens ts) _ (passes_open c.pass.new.self ts _ (c.in_ok-pass.ensures ts h)) in
+    rw o.is (passes_word c.pass-2.new.self c.args.word.now o.ts c.pass-2.result (c.pass-2.ensures o.ts o.there))
