@@ -43,9 +43,7 @@ fn call_all<P: Plant>(
     let mut at = 0;
     // by index: after a zip with `iter_mut` a proof knows nothing of the list
     for (i, call) in calls.iter().enumerate() {
-        let reply = call_on(
-            shift, *call, at, rows, back_rows, queue, back_queue, routes,
-        );
+        let reply = call_on(shift, *call, at, rows, back_rows, queue, back_queue, routes);
         put_reply(replies, i, reply);
         at += nodes_of(reply);
     }

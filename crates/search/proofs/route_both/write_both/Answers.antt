@@ -1,7 +1,6 @@
 use Rattle.std.proofs.Common.{◌≡◌, ℕ, ◌+◌, ◌-◌, ◌<◌, ◌≤◌, List, [], length, take, drop, sym, ap, ◌∙◌, arith, length-drop}
 use Rattle.std.proofs.lemmas.List.{length-reverse, length-take-le}
 use Rattle.plant.specs.Floor.{turned}
-use Rattle.plant.specs.FloorFacts.{turned_laws}
 use Rattle.search.specs.Lists.{onto}
 use Rattle.search.specs.Steps.{trace}
 use Rattle.search.proofs.JoinFacts.{before, trace_last, trace_back, joined_parts, joined_length, first_count, both_written}

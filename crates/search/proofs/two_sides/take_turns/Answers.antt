@@ -1,5 +1,4 @@
 use Rattle.std.proofs.Common.{◌≡◌, suc, ◌+◌, ◌-◌, ◌*◌, sym, ◌∙◌, arith}
-use Rattle.plant.specs.FloorFacts.{turned_laws}
 use Rattle.search.specs.TwoWay.{both_of, two_from}
 use Rattle.search.proofs.RoundFacts.{told, ends_forward, ends_between, ends_back, round}
 use Rattle.search.proofs.two_sides.take_turns.Goals as goal
