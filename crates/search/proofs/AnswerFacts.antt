@@ -1,14 +1,12 @@
 -- From the steps to the answer of a call.
-use Rattle.std.proofs.Common.{◌≡◌, ℕ, ◌<◌, ◌≤◌, Bool, true, false, cond, ltb, leb, List, [], ◌++◌, length, take, drop, Some, None, Option, sym, refl, ap, ◌∙◌, subst, take-append-drop}
+use Rattle.std.proofs.Common.{◌≡◌, ℕ, ◌≤◌, Bool, true, false, cond, List, [], ◌++◌, length, take, drop, Some, None, Option, sym, refl, ap, ◌∙◌, subst, take-append-drop}
 use lib.Seq.{take-append_seam}
 use Rattle.std.proofs.lemmas.List.{length-take-le}
-use Rattle.std.proofs.lemmas.Bool.{cond-true, cond-false, lt-ltb, le-ltb, lt-leb}
+use Rattle.std.proofs.lemmas.Bool.{cond-true, cond-false}
 use Rattle.cost.specs.Kind.{Kind, Laws}
 use Rattle.plant.specs.Floor.{Floor}
 use Rattle.search.specs.declared.answer.Answer.{Answer}
 use Rattle.search.specs.declared.answer.Route.{Route}
-use Rattle.search.specs.declared.fault.SearchFault.{SearchFault}
-use Rattle.search.specs.declared.fault.SearchFault.TheVariants.{Start, Goal, Rows, Queue, Route as ShortRoute}
 use Rattle.search.specs.declared.row.Row.{Row}
 use Rattle.search.specs.Answer.{Right}
 use Rattle.search.specs.Lists.{onto}
@@ -63,7 +61,7 @@ module _ {C N : Type 0} (k : Kind C) {scanned : N} {c : C} (nodes : List ℕ) wh
       → (◌≡◌ {A = Answer C N} (record { scanned = n; route = Some (record { cost = d; nodes = m }) }) (answer_of k scanned c nodes)) × (new ≡ onto (nodes_of k c nodes) old)
   route_answer d n m new old e p q r w = (
     let told : ◌≡◌ {A = Option (Route C)} (Some (record { cost = d; nodes = m })) (route_when c nodes (k.at_most k.beyond c)) =
-    (λ i. Some (record { cost = p i; nodes = r i })) ∙ sym (cond-false _ None (Some (record { cost = c; nodes = length nodes })) e) in
-    λ i. record { scanned = q i; route = told i },
+        (λ i. Some (record { cost = p i; nodes = r i })) ∙ sym (cond-false _ None (Some (record { cost = c; nodes = length nodes })) e) in
+        λ i. record { scanned = q i; route = told i },
     w ∙ ap (λ (xs : List ℕ). onto xs old) (sym (cond-false _ [] nodes e)),
   )

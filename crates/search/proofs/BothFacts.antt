@@ -1,12 +1,10 @@
 -- From the turns to the answer of a call of the two-way search.
-use Rattle.std.proofs.Common.{◌≡◌, ℕ, ◌<◌, ◌≤◌, Bool, true, false, cond, ltb, leb, List, [], length, take, Some, None, Option, sym, refl, ap, ◌∙◌, subst}
-use Rattle.std.proofs.lemmas.Bool.{both_ways, cond-true, cond-false, lt-ltb, le-ltb, lt-leb}
+use Rattle.std.proofs.Common.{◌≡◌, ℕ, ◌<◌, ◌≤◌, true, false, List, length, take, sym, ap, ◌∙◌, subst}
+use Rattle.std.proofs.lemmas.Bool.{both_ways}
 use Rattle.cost.specs.Kind.{Kind, Laws}
 use Rattle.plant.specs.Floor.{Floor, FloorLaws}
 use Rattle.search.specs.declared.answer.Answer.{Answer}
 use Rattle.search.specs.declared.answer.Both.{Both}
-use Rattle.search.specs.declared.fault.SearchFault.{SearchFault}
-use Rattle.search.specs.declared.fault.SearchFault.TheVariants.{Start, Goal, Rows, Queue, Route as ShortRoute}
 use Rattle.search.specs.declared.row.Row.{Row}
 use Rattle.search.specs.Answer.{RightBoth, WorthBackward}
 use Rattle.search.specs.Lists.{onto}

@@ -30,7 +30,7 @@ use Rattle.search.specs.Faults.{node_fault, room_fault, search_fault}
 use Rattle.search.specs.Searched.{answer_of, count_told, fault_of, one_answer}
 use Rattle.search.specs.SearchedBoth.{both_scanned, two_fault, two_answer}
 use Rattle.search.specs.Calls.{Reply, nodes_told, Areas}
-use Rattle.search.specs.Life.{counts_of, rows_backward, too_short}
+use Rattle.search.specs.Life.{counts_of, too_short}
 use Rattle.search.proofs.FaultFacts.{room_in, both_none}
 use Rattle.search.specs.Served.{Made, plain, unless_shift, unless_search, answer, made, Makes, closed_after}
 
@@ -137,10 +137,6 @@ module _ {C : Type 0} (k : Kind C) (F : Floor C) (at : ℕ) (call : Call) (c : C
       go true = refl
       go false = refl
 
-  search_far : (fault : Option SearchFault) → rows_backward k F call ≡ [] → (unless_search fault (answer k F at call c nodes)).far ≡ []
-  search_far (Some x) e = refl
-  search_far None e = e
-
 shift_told : {C : Type 0} (fault : Option ShiftFault) (r : Reply C) → nodes_told r ≡ 0 → nodes_told (unless_shift fault (plain r)).reply ≡ length (unless_shift fault (plain r)).nodes
 shift_told (Some x) r e = refl
 shift_told None r e = e
@@ -151,7 +147,3 @@ made_told k f a closed at (Close n) = shift_told (close_fault (length f.lanes) c
 made_told k f a closed at (Reopen n) = shift_told (reopen_fault (length f.lanes) closed n) (Ok (Reopened n)) refl
 made_told k f a closed at (One s t) = let F = shut k (among closed) f in search_told k F at (One s t) (one_way k F s t).cost (one_route k F s t) (search_fault f s t (too_short f a (a.places - at) (One s t)))
 made_told k f a closed at (Two s t) = let F = shut k (among closed) f in search_told k F at (Two s t) (two_way k F s t).met.cost (two_route k F s t) (search_fault f s t (too_short f a (a.places - at) (Two s t)))
-
--- a one-way search leaves the rows of the back side as they are
-pub one_far : {C : Type 0} (k : Kind C) (f : Floor C) (a : Areas) (closed : List ℕ) (at s t : ℕ) → (made k f a closed at (One s t)).far ≡ []
-one_far k f a closed at s t = let F = shut k (among closed) f in search_far k F at (One s t) (one_way k F s t).cost (one_route k F s t) (search_fault f s t (too_short f a (a.places - at) (One s t))) refl

@@ -7,11 +7,26 @@ use Rattle.plant.specs.Floor.{Floor}
 use Rattle.search.specs.declared.call.Call.{Call}
 use Rattle.search.specs.declared.row.Row.{Row}
 use Rattle.search.specs.Lists.{onto}
-use Rattle.search.specs.Calls.{Reply, nodes_told, Areas}
+use Rattle.search.specs.Calls.{Reply, nodes_told, Areas, areas}
+use Rattle.search.specs.Lent.{lengths, SameLent}
+use Rattle.search.specs.declared.areas.Areas.{Areas as Lent}
 use Rattle.search.specs.Served.{Made, Makes, made, closed_after, then_served, Served, served_from}
 use Rattle.search.specs.Serving.{Serving}
 use Rattle.search.proofs.AnswerFacts.{written}
 use Rattle.search.proofs.MadeFacts.{made_told}
+
+-- the same areas are as long, and are the same after another call
+module _ {C : Type 0} (a b : Lent C) (h : SameLent a b) where
+  pub lengths_same : lengths b ≡ lengths a
+  lengths_same = let (_, _, _, _, _, r, r', q, q', p) = h in λ i. areas (r i) (q i) (r' i) (q' i) (p i)
+
+  pub routes_long : length b.routes.now ≡ length a.routes.now
+  routes_long = let (_, _, _, _, _, _, _, _, _, p) = h in p
+
+  pub same_after : (d : Lent C) → SameLent b d → SameLent a d
+  same_after d s =
+      let (r, r', q, q', p, m, m', n, n', l) = h in
+      let (t, t', u, u', v, w, w', x, x', y) = s in (t ∙ r, t' ∙ r', u ∙ q, u' ∙ q', v ∙ p, w ∙ m, w' ∙ m', x ∙ n, x' ∙ n', y ∙ l)
 
 -- the same call, by another name of the floor and of the areas
 pub made-same : {C : Type 0} (k : Kind C) {f g : Floor C} {a b : Areas} (closed : List ℕ) (at : ℕ) (c : Call) {r : Reply C} {rows rows' back back' : List (Row C)} {routes routes' : List ℕ} → f ≡ g → a ≡ b →

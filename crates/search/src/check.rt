@@ -38,10 +38,7 @@ pub(crate) fn check_room<P: Plant, T>(
 }
 
 // Whether a queue has a place for each lane, and one for the start.
-pub(crate) fn check_queue<P: Plant>(
-    plant: &P,
-    queue: &[Entry<P::Cost>],
-) -> Result<(), SearchFault>
+pub(crate) fn check_queue<P: Plant>(plant: &P, queue: &[Entry<P::Cost>]) -> Result<(), SearchFault>
     ensures { result_err result ≡ queue_fault (P.Plant.floor plant.now) (length queue.now) }
 {
     if queue.len() <= plant.lane_count() as usize {

@@ -1,32 +1,31 @@
-use Rattle.std.proofs.Common.{◌-◌, List, length, Ok, sym, refl, ap, ◌∙◌, subst}
+use Rattle.std.proofs.Common.{◌-◌, length, Ok, sym, refl, ap, ◌∙◌, subst}
 use Rattle.plant.specs.Closed.{among, shut}
 use Rattle.plant.specs.Shifted.{closed_list, close_fault, reopen_fault}
 use Rattle.search.specs.declared.call.Call.{Call}
 use Rattle.search.specs.declared.call.Call.TheVariants.{One, Two}
 use Rattle.search.specs.declared.reply.CallFault.TheVariants.{Shift}
 use Rattle.search.specs.declared.reply.Done.TheVariants.{Closed, Reopened}
-use Rattle.search.specs.declared.row.Row.{Row}
 use Rattle.search.specs.Calls.{areas}
 use Rattle.search.specs.Faults.{search_fault}
 use Rattle.search.specs.Life.{too_short}
-use Rattle.search.specs.Lists.{onto}
 use Rattle.search.specs.OneWay.{one_way, one_route}
 use Rattle.search.specs.TwoWay.{two_way, two_route}
 use Rattle.search.specs.Served.{made, Makes, closed_after}
-use Rattle.search.proofs.MadeFacts.{shift_accepts, shift_refuses, refused, search_keeps, one_far}
+use Rattle.search.proofs.MadeFacts.{shift_accepts, shift_refuses, refused, search_keeps}
 use Rattle.search.proofs.calling.call_on.Goals as goal
 
 pub returns-in_ok-close-in-Close : goal.returns-in_ok-close-in-Close
 returns-in_ok-close-in-Close g c =
     let f = g.P.Plant.floor c.args.shift.now.below in
     let closed = closed_list c.args.shift.now in
-    let rows = c.args.rows.now in
-    let back = c.args.back_rows.now in
-    let routes = c.args.routes.now in
-    let a = areas (length rows) (length c.args.queue.now) (length back) (length c.args.back_queue.now) (length routes) in
+    let rows = c.args.areas.now.rows.now in
+    let back = c.args.areas.now.back_rows.now in
+    let routes = c.args.areas.now.routes.now in
+    let a = areas (length rows) (length c.args.areas.now.queue.now) (length back) (length c.args.areas.now.back_queue.now) (length routes) in
     let P : Call → Type 0 = λ x. Makes (made g.P.Cost.CostKind.kind f a closed c.args.at x) c.args.at (Ok (Closed c.in-Close.k)) rows rows back back routes routes in
     record {
       makes = subst P (sym c.in-Close.is) (shift_accepts c.args.at rows rows back back routes c.requires (close_fault (length f.lanes) closed c.in-Close.k) (Ok (Closed c.in-Close.k)) c.in_ok-close-in-Close.ensures.fault);
+      same = (refl, refl, refl, refl, refl, refl, refl, refl, refl, refl);
       closed = c.in_ok-close-in-Close.ensures.closed;
       below = c.in_ok-close-in-Close.ensures.below;
     }
@@ -35,13 +34,14 @@ pub returns-in_err-close-in-Close : goal.returns-in_err-close-in-Close
 returns-in_err-close-in-Close g c =
     let f = g.P.Plant.floor c.args.shift.now.below in
     let closed = closed_list c.args.shift.now in
-    let rows = c.args.rows.now in
-    let back = c.args.back_rows.now in
-    let routes = c.args.routes.now in
-    let a = areas (length rows) (length c.args.queue.now) (length back) (length c.args.back_queue.now) (length routes) in
+    let rows = c.args.areas.now.rows.now in
+    let back = c.args.areas.now.back_rows.now in
+    let routes = c.args.areas.now.routes.now in
+    let a = areas (length rows) (length c.args.areas.now.queue.now) (length back) (length c.args.areas.now.back_queue.now) (length routes) in
     let P : Call → Type 0 = λ x. Makes (made g.P.Cost.CostKind.kind f a closed c.args.at x) c.args.at c.from_residual.result rows rows back back routes routes in
     record {
       makes = subst P (sym c.in-Close.is) (shift_refuses c.args.at rows rows back back routes c.requires (close_fault (length f.lanes) closed c.in-Close.k) (Ok (Closed c.in-Close.k)) c.in_err-close-in-Close.field-0.0 c.in_err-close-in-Close.ensures.fault c.from_residual.result c.from_residual.ensures.1);
+      same = (refl, refl, refl, refl, refl, refl, refl, refl, refl, refl);
       closed = ap closed_list c.in_err-close-in-Close.ensures.closed ∙ sym (ap (closed_after closed) (refused c.from_residual.result (Shift c.in_err-close-in-Close.field-0.0) c.from_residual.ensures.1));
       below = c.in_err-close-in-Close.ensures.below;
     }
@@ -50,13 +50,14 @@ pub returns-in_ok-reopen-in-Reopen : goal.returns-in_ok-reopen-in-Reopen
 returns-in_ok-reopen-in-Reopen g c =
     let f = g.P.Plant.floor c.args.shift.now.below in
     let closed = closed_list c.args.shift.now in
-    let rows = c.args.rows.now in
-    let back = c.args.back_rows.now in
-    let routes = c.args.routes.now in
-    let a = areas (length rows) (length c.args.queue.now) (length back) (length c.args.back_queue.now) (length routes) in
+    let rows = c.args.areas.now.rows.now in
+    let back = c.args.areas.now.back_rows.now in
+    let routes = c.args.areas.now.routes.now in
+    let a = areas (length rows) (length c.args.areas.now.queue.now) (length back) (length c.args.areas.now.back_queue.now) (length routes) in
     let P : Call → Type 0 = λ x. Makes (made g.P.Cost.CostKind.kind f a closed c.args.at x) c.args.at (Ok (Reopened c.in-Reopen.k)) rows rows back back routes routes in
     record {
       makes = subst P (sym c.in-Reopen.is) (shift_accepts c.args.at rows rows back back routes c.requires (reopen_fault (length f.lanes) closed c.in-Reopen.k) (Ok (Reopened c.in-Reopen.k)) c.in_ok-reopen-in-Reopen.ensures.fault);
+      same = (refl, refl, refl, refl, refl, refl, refl, refl, refl, refl);
       closed = c.in_ok-reopen-in-Reopen.ensures.closed;
       below = c.in_ok-reopen-in-Reopen.ensures.below;
     }
@@ -65,13 +66,14 @@ pub returns-in_err-reopen-in-Reopen : goal.returns-in_err-reopen-in-Reopen
 returns-in_err-reopen-in-Reopen g c =
     let f = g.P.Plant.floor c.args.shift.now.below in
     let closed = closed_list c.args.shift.now in
-    let rows = c.args.rows.now in
-    let back = c.args.back_rows.now in
-    let routes = c.args.routes.now in
-    let a = areas (length rows) (length c.args.queue.now) (length back) (length c.args.back_queue.now) (length routes) in
+    let rows = c.args.areas.now.rows.now in
+    let back = c.args.areas.now.back_rows.now in
+    let routes = c.args.areas.now.routes.now in
+    let a = areas (length rows) (length c.args.areas.now.queue.now) (length back) (length c.args.areas.now.back_queue.now) (length routes) in
     let P : Call → Type 0 = λ x. Makes (made g.P.Cost.CostKind.kind f a closed c.args.at x) c.args.at c.from_residual-in_err-reopen-in-Reopen.result rows rows back back routes routes in
     record {
       makes = subst P (sym c.in-Reopen.is) (shift_refuses c.args.at rows rows back back routes c.requires (reopen_fault (length f.lanes) closed c.in-Reopen.k) (Ok (Reopened c.in-Reopen.k)) c.in_err-reopen-in-Reopen.field-0.0 c.in_err-reopen-in-Reopen.ensures.fault c.from_residual-in_err-reopen-in-Reopen.result c.from_residual-in_err-reopen-in-Reopen.ensures.1);
+      same = (refl, refl, refl, refl, refl, refl, refl, refl, refl, refl);
       closed = ap closed_list c.in_err-reopen-in-Reopen.ensures.closed ∙ sym (ap (closed_after closed) (refused c.from_residual-in_err-reopen-in-Reopen.result (Shift c.in_err-reopen-in-Reopen.field-0.0) c.from_residual-in_err-reopen-in-Reopen.ensures.1));
       below = c.in_err-reopen-in-Reopen.ensures.below;
     }
@@ -85,14 +87,15 @@ returns-in-One g c =
     let at = c.args.at in
     let s = c.in-One.start in
     let t = c.in-One.goal in
-    let rows = c.args.rows.now in
-    let back = c.args.back_rows.now in
-    let routes = c.args.routes.now in
-    let a = areas (length rows) (length c.args.queue.now) (length back) (length c.args.back_queue.now) (length routes) in
-    let m = c.call_one.ensures in
-    let P : Call → Type 0 = λ x. Makes (made k f a closed at x) at c.call_one.result rows c.call_one.new.rows back back routes c.call_one.new.routes in
+    let rows = c.args.areas.now.rows.now in
+    let back = c.args.areas.now.back_rows.now in
+    let routes = c.args.areas.now.routes.now in
+    let a = areas (length rows) (length c.args.areas.now.queue.now) (length back) (length c.args.areas.now.back_queue.now) (length routes) in
+    let m = c.call_one.ensures.makes in
+    let P : Call → Type 0 = λ x. Makes (made k f a closed at x) at c.call_one.result rows c.call_one.new.areas.rows.now back c.call_one.new.areas.back_rows.now routes c.call_one.new.areas.routes.now in
     record {
-      makes = subst P (sym c.in-One.is) (record { reply_is = m.reply_is; rows_are = m.rows_are; back_are = ap (λ (xs : List (Row g.row.P-Cost.Denot)). onto xs back) (sym (one_far k f a closed at s t)); routes_are = m.routes_are; fits = m.fits });
+      makes = subst P (sym c.in-One.is) m;
+      same = c.call_one.ensures.same;
       closed = sym (ap (closed_after closed) m.reply_is ∙ search_keeps k F at (One s t) (one_way k F s t).cost (one_route k F s t) closed (search_fault f s t (too_short f a (length routes - at) (One s t))));
       below = refl;
     }
@@ -106,14 +109,15 @@ returns-in-Two g c =
     let at = c.args.at in
     let s = c.in-Two.start in
     let t = c.in-Two.goal in
-    let rows = c.args.rows.now in
-    let back = c.args.back_rows.now in
-    let routes = c.args.routes.now in
-    let a = areas (length rows) (length c.args.queue.now) (length back) (length c.args.back_queue.now) (length routes) in
-    let m = c.call_two.ensures in
-    let P : Call → Type 0 = λ x. Makes (made k f a closed at x) at c.call_two.result rows c.call_two.new.rows back c.call_two.new.back_rows routes c.call_two.new.routes in
+    let rows = c.args.areas.now.rows.now in
+    let back = c.args.areas.now.back_rows.now in
+    let routes = c.args.areas.now.routes.now in
+    let a = areas (length rows) (length c.args.areas.now.queue.now) (length back) (length c.args.areas.now.back_queue.now) (length routes) in
+    let m = c.call_two.ensures.makes in
+    let P : Call → Type 0 = λ x. Makes (made k f a closed at x) at c.call_two.result rows c.call_two.new.areas.rows.now back c.call_two.new.areas.back_rows.now routes c.call_two.new.areas.routes.now in
     record {
       makes = subst P (sym c.in-Two.is) m;
+      same = c.call_two.ensures.same;
       closed = sym (ap (closed_after closed) m.reply_is ∙ search_keeps k F at (Two s t) (two_way k F s t).met.cost (two_route k F s t) closed (search_fault f s t (too_short f a (length routes - at) (Two s t))));
       below = refl;
     }

@@ -1,4 +1,4 @@
-use Rattle.std.proofs.Common.{ltb, length, Some, None, sym}
+use Rattle.std.proofs.Common.{ltb, length, Some, None, sym, ◌∙◌, rules}
 use Rattle.std.proofs.lemmas.Bool.{cond-false, le-ltb}
 use Rattle.search.specs.declared.fault.SearchFault.TheVariants.{Replies}
 use Rattle.search.proofs.Life.{fresh_life}
@@ -12,6 +12,6 @@ returns g c =
     record {
       fault = sym (cond-false (ltb places calls) (Some Replies) None (le-ltb places calls c.if-replies-calls.false));
       below = all.below;
-      made = (all.made, all.closed);
-      life = fresh_life g.met.P.Cost.CostKind.lawful c.node_count.ensures.lawful all.made all.closed;
+      made = (record { replies_are = all.made.replies_are; routes_are = search rules; rows_are = (search rules) ∙ all.made.rows_are; back_are = (search rules) ∙ all.made.back_are }, all.closed);
+      life = fresh_life {routes = c.args.routes.now} g.met.P.Cost.CostKind.lawful c.node_count.ensures.lawful (record { replies_are = all.made.replies_are; routes_are = search rules; rows_are = all.made.rows_are; back_are = all.made.back_are }) all.closed;
     }

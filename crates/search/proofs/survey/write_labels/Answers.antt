@@ -1,4 +1,4 @@
-use Rattle.std.proofs.Common.{◌≡◌, ℕ, ◌<◌, List, map, length, get_or, take, set, sym, ap, ◌∙◌, arith}
+use Rattle.std.proofs.Common.{◌≡◌, ℕ, ◌<◌, List, map, length, take, set, sym, ap, ◌∙◌, arith}
 use lib.Seq.{take-length}
 use Rattle.search.specs.declared.row.Row.{Row}
 use Rattle.search.specs.Lists.{onto}
