@@ -1,5 +1,5 @@
 -- What follows where a test of a call finds no fault, and which of two faults comes first.
-use Rattle.std.proofs.Common.{◌≡◌, ℕ, ◌<◌, ◌≤◌, Bool, true, false, cond, ltb, Some, None, Option, refl, ap, ◌∙◌, arith}
+use Rattle.std.proofs.Common.{◌≡◌, ℕ, ◌<◌, ◌≤◌, Bool, true, false, cond, ltb, Some, None, Option, refl, arith}
 use Rattle.std.proofs.lemmas.Bool.{ltb-true, ltb-false}
 use Rattle.std.specs.Option.{option_or}
 use Rattle.plant.specs.Floor.{Floor}
@@ -25,7 +25,3 @@ module _ {C : Type 0} (f : Floor C) where
 pub both_none : {X : Type 0} (a b : Option X) → None ≡ option_or a b → (None ≡ a) × (None ≡ b)
 both_none None b e = (refl, e)
 both_none (Some x) b e = absurd (let z : ◌≡◌ {A = ℕ} 0 1 = cc in omega arith)
-
--- where the first test finds none, the second decides
-pub past_none : {X : Type 0} {a b r : Option X} → None ≡ a → r ≡ b → r ≡ option_or a b
-past_none {X} {a} {b} {r} e h = h ∙ ap (λ (x : Option X). option_or x b) e

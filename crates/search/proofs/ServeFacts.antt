@@ -1,5 +1,5 @@
 -- Calls in turn: what has been replied and written, and what the calls that are left will add to it.
-use Rattle.std.proofs.Common.{◌≡◌, ℕ, ◌+◌, ◌<◌, ◌≤◌, List, [], ◌∷◌, ◌++◌, length, take, drop, set, sym, refl, ap, ◌∙◌, subst, append_assoc, append-nil, arith, drop_of_length-le}
+use Rattle.std.proofs.Common.{◌≡◌, ℕ, ◌+◌, ◌<◌, ◌≤◌, List, [], ◌∷◌, ◌++◌, length, take, drop, set, sym, ap, ◌∙◌, subst, append_assoc, append-nil, arith, drop_of_length-le}
 use lib.Seq.{take-append-add, drop-append-add, take-append_seam, drop-append_seam}
 use Rattle.std.proofs.lemmas.List.{drop-drop, drop-set-lt, length-take-le, take_more_set}
 use Rattle.cost.specs.Kind.{Kind}
@@ -35,9 +35,6 @@ made-same {C} k {f} {g} {a} {b} closed at c {r} {rows} {rows'} {back} {back'} {r
     subst (λ (x : Areas). Makes (made k g x closed at c) at r rows rows' back back' routes routes') d (subst (λ (x : Floor C). Makes (made k x a closed at c) at r rows rows' back back' routes routes') e m)
 
 module _ {C : Type 0} {k : Kind C} {f : Floor C} {a : Areas} {calls : List Call} {closed₀ : List ℕ} {replies₀ : List (Reply C)} {routes₀ : List ℕ} {rows₀ back₀ : List (Row C)} where
-  pub serving_none : Serving k f a calls closed₀ replies₀ routes₀ rows₀ back₀ 0 0 closed₀ replies₀ routes₀ rows₀ back₀
-  serving_none = record { told = refl; replies_past = refl; wrote = refl; routes_past = refl; closes = refl; nears = refl; fars = refl; fits = omega arith }
-
   module _ {i at : ℕ} {closed : List ℕ} {replies : List (Reply C)} {routes : List ℕ} {rows back : List (Row C)} (h : Serving k f a calls closed₀ replies₀ routes₀ rows₀ back₀ i at closed replies routes rows back) where
     -- one more call
     module _ (c : Call) (next : drop i calls ≡ c ∷ drop (i + 1) calls) {r : Reply C} {closed' : List ℕ} {routes' : List ℕ} {rows' back' : List (Row C)}
@@ -55,10 +52,6 @@ module _ {C : Type 0} {k : Kind C} {f : Floor C} {a : Areas} {calls : List Call}
 
       kept : length (take at routes) ≡ at
       kept = length-take-le at routes h.fits
-
-      -- the place after the nodes of this call
-      pub serving_fits : at + n ≤ length routes
-      serving_fits = omega (arith, long, m.fits)
 
       pub serving_more : i < length replies → length routes' ≡ length routes → Serving k f a calls closed₀ replies₀ routes₀ rows₀ back₀ (i + 1) (at + n) closed' (set replies i r) routes' rows' back'
       serving_more lt same = record {
@@ -115,9 +108,6 @@ module _ {C : Type 0} {k : Kind C} {f : Floor C} {a : Areas} {calls : List Call}
 
       pub all_routes : routes ≡ onto T.routes routes₀
       all_routes = (written at routes routes₀ T.routes h.fits (sym (append-nil (take at routes)) ∙ ap (λ (x : Served C). take at routes ++ x.routes) (sym none) ∙ h.wrote) h.routes_past).1
-
-      pub all_closed : closed ≡ T.closed
-      all_closed = ap (λ (x : Served C). x.closed) (sym none) ∙ h.closes
 
       pub all_near : rows ≡ T.near rows₀
       all_near = ap (λ (x : Served C). x.near rows) (sym none) ∙ h.nears
