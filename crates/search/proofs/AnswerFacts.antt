@@ -2,7 +2,6 @@
 use Rattle.std.proofs.Common.{◌≡◌, ℕ, ◌≤◌, Bool, true, false, cond, List, [], ◌++◌, length, take, drop, Some, None, Option, sym, refl, ap, ◌∙◌, subst, take-append-drop}
 use lib.Seq.{take-append_seam}
 use Rattle.std.proofs.lemmas.List.{length-take-le}
-use Rattle.std.proofs.lemmas.Bool.{cond-true, cond-false}
 use Rattle.cost.specs.Kind.{Kind, Laws}
 use Rattle.plant.specs.Floor.{Floor}
 use Rattle.search.specs.declared.answer.Answer.{Answer}
@@ -48,20 +47,3 @@ module _ {C N : Type 0} (k : Kind C) (laws : Laws k) (scanned : N) (c : C) (node
 
   pub cost_is : (a : Answer C N) → a ≡ answer_of k scanned c nodes → cost_of k a ≡ c
   cost_is a e = ap (λ (x : Answer C N). cost_of k x) e ∙ cost_when (k.at_most k.beyond c) refl
-
--- what a search tells and writes that came to the cost c over these nodes
-module _ {C N : Type 0} (k : Kind C) {scanned : N} {c : C} (nodes : List ℕ) where
-  pub beyond_answer : (n : N) (old : List ℕ) → k.at_most k.beyond c ≡ true → n ≡ scanned → (◌≡◌ {A = Answer C N} (record { scanned = n; route = None }) (answer_of k scanned c nodes)) × (old ≡ onto (nodes_of k c nodes) old)
-  beyond_answer n old e s = (
-    λ i. record { scanned = s i; route = sym (cond-true _ None (Some (record { cost = c; nodes = length nodes })) e) i },
-    ap (λ (xs : List ℕ). onto xs old) (sym (cond-true _ [] nodes e)),
-  )
-
-  pub route_answer : (d : C) (n : N) (m : ℕ) (new old : List ℕ) → k.at_most k.beyond c ≡ false → d ≡ c → n ≡ scanned → m ≡ length nodes → new ≡ onto nodes old
-      → (◌≡◌ {A = Answer C N} (record { scanned = n; route = Some (record { cost = d; nodes = m }) }) (answer_of k scanned c nodes)) × (new ≡ onto (nodes_of k c nodes) old)
-  route_answer d n m new old e p q r w = (
-    let told : ◌≡◌ {A = Option (Route C)} (Some (record { cost = d; nodes = m })) (route_when c nodes (k.at_most k.beyond c)) =
-        (λ i. Some (record { cost = p i; nodes = r i })) ∙ sym (cond-false _ None (Some (record { cost = c; nodes = length nodes })) e) in
-        λ i. record { scanned = q i; route = told i },
-    w ∙ ap (λ (xs : List ℕ). onto xs old) (sym (cond-false _ [] nodes e)),
-  )

@@ -1,11 +1,10 @@
 -- What follows where a test of a call finds no fault, and which of two faults comes first.
-use Rattle.std.proofs.Common.{◌≡◌, ℕ, ◌<◌, ◌≤◌, Bool, true, false, cond, ltb, leb, length, Some, None, Option, refl, ap, ◌∙◌, arith}
-use Rattle.std.proofs.lemmas.Bool.{ltb-true, ltb-false, leb-false}
+use Rattle.std.proofs.Common.{◌≡◌, ℕ, ◌<◌, ◌≤◌, Bool, true, false, cond, ltb, Some, None, Option, refl, arith}
+use Rattle.std.proofs.lemmas.Bool.{ltb-true, ltb-false}
 use Rattle.std.specs.Option.{option_or}
 use Rattle.plant.specs.Floor.{Floor}
 use Rattle.search.specs.declared.fault.SearchFault.{SearchFault}
-use Rattle.search.specs.declared.fault.SearchFault.TheVariants.{Queue}
-use Rattle.search.specs.Faults.{node_fault, room_fault, queue_fault}
+use Rattle.search.specs.Faults.{node_fault, room_fault}
 
 module _ {C : Type 0} (f : Floor C) where
   pub node_in : (v : ℕ) (x : SearchFault) → None ≡ node_fault f v x → v < f.nodes
@@ -22,18 +21,7 @@ module _ {C : Type 0} (f : Floor C) where
       go true q h = absurd (let z : ◌≡◌ {A = ℕ} 0 1 = cc in omega arith)
       go false q h = ltb-false _ _ q
 
-  pub queue_in : (n : ℕ) → None ≡ queue_fault f n → length f.lanes < n
-  queue_in n e = go (leb n (length f.lanes)) refl e
-    where
-      go : (b : Bool) → leb n (length f.lanes) ≡ b → None ≡ cond b (Some Queue) None → length f.lanes < n
-      go true q h = absurd (let z : ◌≡◌ {A = ℕ} 0 1 = cc in omega arith)
-      go false q h = leb-false _ _ q
-
 -- of two tests, neither finds a fault
 pub both_none : {X : Type 0} (a b : Option X) → None ≡ option_or a b → (None ≡ a) × (None ≡ b)
 both_none None b e = (refl, e)
 both_none (Some x) b e = absurd (let z : ◌≡◌ {A = ℕ} 0 1 = cc in omega arith)
-
--- where the first test finds none, the second decides
-pub past_none : {X : Type 0} {a b r : Option X} → None ≡ a → r ≡ b → r ≡ option_or a b
-past_none {X} {a} {b} {r} e h = h ∙ ap (λ (x : Option X). option_or x b) e

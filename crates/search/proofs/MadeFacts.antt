@@ -1,5 +1,5 @@
 -- From what a search or a shift answers to what its call is made as.
-use Rattle.std.proofs.Common.{◌≡◌, ℕ, ◌-◌, ◌≤◌, Bool, true, false, cond, leb, List, [], ◌++◌, length, take, drop, Some, None, Option, Ok, Err, sym, refl, ap, ◌∙◌, subst, append-nil, arith, length-append, length-drop, take-append-drop, drop_of_length-le}
+use Rattle.std.proofs.Common.{◌≡◌, ℕ, ◌-◌, ◌≤◌, Bool, true, false, cond, leb, List, [], ◌++◌, length, take, drop, Some, None, Option, Ok, Err, sym, refl, ap, ◌∙◌, subst, append-nil, arith, length-append, length-drop, drop_of_length-le}
 use borrow.Rule.Slice.PartMut.{put_mid}
 use Rattle.std.proofs.lemmas.Slice.{between_to_end}
 use Rattle.std.specs.Option.{option_or}
@@ -19,7 +19,7 @@ use Rattle.search.specs.declared.call.Call.TheVariants.{Close, Reopen, One, Two}
 use Rattle.search.specs.declared.fault.SearchFault.{SearchFault}
 use Rattle.search.specs.declared.fault.SearchFault.TheVariants.{Start, Goal, Rows, Queue, Route as ShortRoute}
 use Rattle.search.specs.declared.reply.CallFault.{CallFault}
-use Rattle.search.specs.declared.reply.CallFault.TheVariants.{Search, Shift}
+use Rattle.search.specs.declared.reply.CallFault.TheVariants.{Search}
 use Rattle.search.specs.declared.reply.Done.TheVariants.{Closed, Reopened, Searched as Told}
 use Rattle.search.specs.declared.row.Row.{Row}
 use Rattle.search.specs.Lists.{onto, onto_at}
@@ -30,9 +30,9 @@ use Rattle.search.specs.Faults.{node_fault, room_fault, search_fault}
 use Rattle.search.specs.Searched.{answer_of, count_told, fault_of, one_answer}
 use Rattle.search.specs.SearchedBoth.{both_scanned, two_fault, two_answer}
 use Rattle.search.specs.Calls.{Reply, nodes_told, Areas}
-use Rattle.search.specs.Life.{counts_of, rows_backward, too_short}
+use Rattle.search.specs.Life.{counts_of, too_short}
 use Rattle.search.proofs.FaultFacts.{room_in, both_none}
-use Rattle.search.specs.Served.{Made, plain, unless_shift, unless_search, answer, made, Makes, closed_after}
+use Rattle.search.specs.Served.{Made, plain, unless_shift, unless_search, answer, made, Makes}
 
 -- a write to the end of a list, from `at` on
 put_end : (at : ℕ) (old part nodes : List ℕ) → part ≡ onto nodes (take (length old - at) (drop at old)) → put_mid at (length old - at) old part ≡ onto_at at nodes old
@@ -45,25 +45,11 @@ put_end at old part nodes e =
 fits_onto : (nodes part : List ℕ) → length (onto nodes part) ≡ length part → length nodes ≤ length part
 fits_onto nodes part e = let a = length-append nodes (drop (length nodes) part) in omega arith
 
-put_none : (at : ℕ) (old : List ℕ) → old ≡ onto_at at [] old
-put_none at old = sym (take-append-drop at old)
-
 -- a reply that refuses for x
 pub refused : {C : Type 0} (r : Reply C) (x : CallFault) → IsErrAnd r (λ y. y ≡ x) → r ≡ Err x
 refused r x h = let (y, is, same) = err_from_is_err_and r h in is ∙ ap Err same
 
 module _ {C : Type 0} (at : ℕ) (rows rows' back back' : List (Row C)) (routes : List ℕ) (le : at ≤ length routes) where
-  -- a call on the shift alone
-  module _ (fault : Option ShiftFault) (r : Reply C) where
-    made_plain : (q : Reply C) → Makes (plain q) at q rows rows back back routes routes
-    made_plain q = record { reply_is = refl; rows_are = refl; back_are = refl; routes_are = put_none at routes; fits = omega arith }
-
-    pub shift_accepts : None ≡ fault → Makes (unless_shift fault (plain r)) at r rows rows back back routes routes
-    shift_accepts e = subst (λ (z : Option ShiftFault). Makes (unless_shift z (plain r)) at r rows rows back back routes routes) e (made_plain r)
-
-    pub shift_refuses : (x : ShiftFault) → Some x ≡ fault → (q : Reply C) → IsErrAnd q (λ y. y ≡ Shift x) → Makes (unless_shift fault (plain r)) at q rows rows back back routes routes
-    shift_refuses x e q is = subst (λ (z : Option ShiftFault). Makes (unless_shift z (plain r)) at q rows rows back back routes routes) e (subst (λ (y : Reply C). Makes (plain (Err (Shift x))) at y rows rows back back routes routes) (sym (refused q (Shift x) is)) (made_plain (Err (Shift x))))
-
   -- a search, whose route is written into the part of the list that is left
   module _ (fault : Option SearchFault) (m : Made C) (part : List ℕ) where
     abbrev Left : List ℕ
@@ -124,11 +110,6 @@ module _ {C : Type 0} (k : Kind C) (f : Floor C) (closed : List ℕ) (s t : ℕ)
   two_replied at = replied (Two s t) (both_scanned k F s t) (two_way k F s t).met.cost (two_route k F s t) at (λ n. record { forward = n.forward; back = Some n.back }) refl
 
 module _ {C : Type 0} (k : Kind C) (F : Floor C) (at : ℕ) (call : Call) (c : C) (nodes : List ℕ) where
-  -- a search leaves the closed lanes as they are
-  pub search_keeps : (closed : List ℕ) (fault : Option SearchFault) → closed_after closed (unless_search fault (answer k F at call c nodes)).reply ≡ closed
-  search_keeps closed (Some x) = refl
-  search_keeps closed None = refl
-
   search_told : (fault : Option SearchFault) → nodes_told (unless_search fault (answer k F at call c nodes)).reply ≡ length (unless_search fault (answer k F at call c nodes)).nodes
   search_told (Some x) = refl
   search_told None = go (k.at_most k.beyond c)
@@ -136,10 +117,6 @@ module _ {C : Type 0} (k : Kind C) (F : Floor C) (at : ℕ) (call : Call) (c : C
       go : (b : Bool) → count_told {C = C} (cond b None (Some (record { cost = c; nodes = length nodes }))) ≡ length (cond b [] nodes)
       go true = refl
       go false = refl
-
-  search_far : (fault : Option SearchFault) → rows_backward k F call ≡ [] → (unless_search fault (answer k F at call c nodes)).far ≡ []
-  search_far (Some x) e = refl
-  search_far None e = e
 
 shift_told : {C : Type 0} (fault : Option ShiftFault) (r : Reply C) → nodes_told r ≡ 0 → nodes_told (unless_shift fault (plain r)).reply ≡ length (unless_shift fault (plain r)).nodes
 shift_told (Some x) r e = refl
@@ -151,7 +128,3 @@ made_told k f a closed at (Close n) = shift_told (close_fault (length f.lanes) c
 made_told k f a closed at (Reopen n) = shift_told (reopen_fault (length f.lanes) closed n) (Ok (Reopened n)) refl
 made_told k f a closed at (One s t) = let F = shut k (among closed) f in search_told k F at (One s t) (one_way k F s t).cost (one_route k F s t) (search_fault f s t (too_short f a (a.places - at) (One s t)))
 made_told k f a closed at (Two s t) = let F = shut k (among closed) f in search_told k F at (Two s t) (two_way k F s t).met.cost (two_route k F s t) (search_fault f s t (too_short f a (a.places - at) (Two s t)))
-
--- a one-way search leaves the rows of the back side as they are
-pub one_far : {C : Type 0} (k : Kind C) (f : Floor C) (a : Areas) (closed : List ℕ) (at s t : ℕ) → (made k f a closed at (One s t)).far ≡ []
-one_far k f a closed at s t = let F = shut k (among closed) f in search_far k F at (One s t) (one_way k F s t).cost (one_route k F s t) (search_fault f s t (too_short f a (a.places - at) (One s t))) refl

@@ -1,5 +1,5 @@
 -- Calls in turn: what has been replied and written, and what the calls that are left will add to it.
-use Rattle.std.proofs.Common.{◌≡◌, ℕ, ◌+◌, ◌<◌, ◌≤◌, List, [], ◌∷◌, ◌++◌, length, take, drop, set, sym, refl, ap, ◌∙◌, subst, append_assoc, append-nil, arith, drop_of_length-le}
+use Rattle.std.proofs.Common.{◌≡◌, ℕ, ◌+◌, ◌<◌, ◌≤◌, List, [], ◌∷◌, ◌++◌, length, take, drop, set, sym, ap, ◌∙◌, subst, append_assoc, append-nil, arith, drop_of_length-le}
 use lib.Seq.{take-append-add, drop-append-add, take-append_seam, drop-append_seam}
 use Rattle.std.proofs.lemmas.List.{drop-drop, drop-set-lt, length-take-le, take_more_set}
 use Rattle.cost.specs.Kind.{Kind}
@@ -7,11 +7,26 @@ use Rattle.plant.specs.Floor.{Floor}
 use Rattle.search.specs.declared.call.Call.{Call}
 use Rattle.search.specs.declared.row.Row.{Row}
 use Rattle.search.specs.Lists.{onto}
-use Rattle.search.specs.Calls.{Reply, nodes_told, Areas}
+use Rattle.search.specs.Calls.{Reply, nodes_told, Areas, areas}
+use Rattle.search.specs.Lent.{lengths, SameLent}
+use Rattle.search.specs.declared.areas.Areas.{Areas as Lent}
 use Rattle.search.specs.Served.{Made, Makes, made, closed_after, then_served, Served, served_from}
 use Rattle.search.specs.Serving.{Serving}
 use Rattle.search.proofs.AnswerFacts.{written}
 use Rattle.search.proofs.MadeFacts.{made_told}
+
+-- the same areas are as long, and are the same after another call
+module _ {C : Type 0} (a b : Lent C) (h : SameLent a b) where
+  pub lengths_same : lengths b ≡ lengths a
+  lengths_same = let (_, _, _, _, _, r, r', q, q', p) = h in λ i. areas (r i) (q i) (r' i) (q' i) (p i)
+
+  pub routes_long : length b.routes.now ≡ length a.routes.now
+  routes_long = let (_, _, _, _, _, _, _, _, _, p) = h in p
+
+  pub same_after : (d : Lent C) → SameLent b d → SameLent a d
+  same_after d s =
+      let (r, r', q, q', p, m, m', n, n', l) = h in
+      let (t, t', u, u', v, w, w', x, x', y) = s in (t ∙ r, t' ∙ r', u ∙ q, u' ∙ q', v ∙ p, w ∙ m, w' ∙ m', x ∙ n, x' ∙ n', y ∙ l)
 
 -- the same call, by another name of the floor and of the areas
 pub made-same : {C : Type 0} (k : Kind C) {f g : Floor C} {a b : Areas} (closed : List ℕ) (at : ℕ) (c : Call) {r : Reply C} {rows rows' back back' : List (Row C)} {routes routes' : List ℕ} → f ≡ g → a ≡ b →
@@ -20,9 +35,6 @@ made-same {C} k {f} {g} {a} {b} closed at c {r} {rows} {rows'} {back} {back'} {r
     subst (λ (x : Areas). Makes (made k g x closed at c) at r rows rows' back back' routes routes') d (subst (λ (x : Floor C). Makes (made k x a closed at c) at r rows rows' back back' routes routes') e m)
 
 module _ {C : Type 0} {k : Kind C} {f : Floor C} {a : Areas} {calls : List Call} {closed₀ : List ℕ} {replies₀ : List (Reply C)} {routes₀ : List ℕ} {rows₀ back₀ : List (Row C)} where
-  pub serving_none : Serving k f a calls closed₀ replies₀ routes₀ rows₀ back₀ 0 0 closed₀ replies₀ routes₀ rows₀ back₀
-  serving_none = record { told = refl; replies_past = refl; wrote = refl; routes_past = refl; closes = refl; nears = refl; fars = refl; fits = omega arith }
-
   module _ {i at : ℕ} {closed : List ℕ} {replies : List (Reply C)} {routes : List ℕ} {rows back : List (Row C)} (h : Serving k f a calls closed₀ replies₀ routes₀ rows₀ back₀ i at closed replies routes rows back) where
     -- one more call
     module _ (c : Call) (next : drop i calls ≡ c ∷ drop (i + 1) calls) {r : Reply C} {closed' : List ℕ} {routes' : List ℕ} {rows' back' : List (Row C)}
@@ -40,10 +52,6 @@ module _ {C : Type 0} {k : Kind C} {f : Floor C} {a : Areas} {calls : List Call}
 
       kept : length (take at routes) ≡ at
       kept = length-take-le at routes h.fits
-
-      -- the place after the nodes of this call
-      pub serving_fits : at + n ≤ length routes
-      serving_fits = omega (arith, long, m.fits)
 
       pub serving_more : i < length replies → length routes' ≡ length routes → Serving k f a calls closed₀ replies₀ routes₀ rows₀ back₀ (i + 1) (at + n) closed' (set replies i r) routes' rows' back'
       serving_more lt same = record {

@@ -17,5 +17,6 @@ pub mod Moment
 pub mod Life
 pub mod Served
 pub mod Serving
+pub mod Lent
 pub mod EntryOrder
 pub mod Order

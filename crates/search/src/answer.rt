@@ -51,7 +51,7 @@ impl From<Both> for Counts {
     }
 }
 
-impl<C, N: Into<Counts>> Answer<C, N> {
+impl<C: Copy, N: Copy + Into<Counts>> Answer<C, N> {
     // The same answer, whichever way it was searched for.
     pub fn counted(self) -> Answer<C, Counts>
         ensures scanned { N.converts self.scanned result.scanned }

@@ -2,6 +2,7 @@
 #![tactic(auto)]
 
 pub mod answer;
+mod areas;
 mod begin;
 pub mod call;
 mod calling;

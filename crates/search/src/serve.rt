@@ -4,8 +4,10 @@ ghost use Rattle.plant.specs.Shifted.{closed_list};
 ghost use Rattle.search.specs.Calls.{areas, past};
 ghost use Rattle.search.specs.Life.{Life, Held};
 ghost use Rattle.search.specs.Served.{served_from, served, AllMade, replies_fault};
+ghost use Rattle.search.specs.Lent.{lengths, SameLent, AllMadeIn};
 ghost use Rattle.std.specs.Result.{result_err};
 
+use crate::areas::Areas;
 use crate::call::Call;
 use crate::calling::{call_on, nodes_of};
 use crate::entry::Entry;
@@ -24,26 +26,24 @@ fn put_reply<C: CostKind>(replies: &mut [Reply<C>], i: usize, reply: Reply<C>)
     replies[i] = reply;
 }
 
-// Makes the calls in turn; the routes are written one after another.
+// Makes the calls in turn; the routes are written one after another. Where nothing is closed before them, each reply is right after the calls before it.
 fn call_all<P: Plant>(
     shift: &mut Shift<P>,
     calls: &[Call],
-    rows: &mut [Row<P::Cost>],
-    back_rows: &mut [Row<P::Cost>],
-    queue: &mut [Entry<P::Cost>],
-    back_queue: &mut [Entry<P::Cost>],
+    areas: &mut Areas<P::Cost>,
     replies: &mut [Reply<P::Cost>],
-    routes: &mut [u32],
 )
     requires { length calls.now ≤ length replies.old }
-    ensures made { AllMade (served_from P.Cost.CostKind.kind (P.Plant.floor shift.old.below) (areas (length rows.old) (length queue.old) (length back_rows.old) (length back_queue.old) (length routes.old)) (closed_list shift.old) 0 calls.now) replies.old replies.new routes.old routes.new rows.old rows.new back_rows.old back_rows.new }
-    ensures closed { closed_list shift.new ≡ (served_from P.Cost.CostKind.kind (P.Plant.floor shift.old.below) (areas (length rows.old) (length queue.old) (length back_rows.old) (length back_queue.old) (length routes.old)) (closed_list shift.old) 0 calls.now).closed }
+    ensures made { AllMadeIn (served_from P.Cost.CostKind.kind (P.Plant.floor shift.old.below) (lengths areas.old) (closed_list shift.old) 0 calls.now) replies.old replies.new areas.old areas.new }
+    ensures same { SameLent areas.old areas.new }
+    ensures closed { closed_list shift.new ≡ (served_from P.Cost.CostKind.kind (P.Plant.floor shift.old.below) (lengths areas.old) (closed_list shift.old) 0 calls.now).closed }
     ensures below { shift.new.below ≡ shift.old.below }
+    ensures life { closed_list shift.old ≡ [] → Life P.Cost.CostKind.kind (P.Plant.floor shift.old.below) (lengths areas.old) calls.now (take (length calls.now) replies.new) areas.new.routes.now × Held (past calls.now (take (length calls.now) replies.new) (length calls.now)) (closed_list shift.new) }
 {
     let mut at = 0;
     // by index: after a zip with `iter_mut` a proof knows nothing of the list
     for (i, call) in calls.iter().enumerate() {
-        let reply = call_on(shift, *call, at, rows, back_rows, queue, back_queue, routes);
+        let reply = call_on(shift, *call, at, areas);
         put_reply(replies, i, reply);
         at += nodes_of(reply);
     }
@@ -68,9 +68,14 @@ pub fn serve_on<P: Plant>(
     if replies.len() < calls.len() {
         return Err(SearchFault::Replies);
     }
-    call_all(
-        shift, calls, rows, back_rows, queue, back_queue, replies, routes,
-    );
+    let mut areas = Areas {
+        rows,
+        back_rows,
+        queue,
+        back_queue,
+        routes,
+    };
+    call_all(shift, calls, &mut areas, replies);
     Ok(())
 }
 

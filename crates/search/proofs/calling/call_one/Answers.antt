@@ -1,4 +1,4 @@
-use Rattle.std.proofs.Common.{◌≡◌, ◌-◌, ◌≤◌, [], length, take, drop, Ok, refl, ap, ◌∙◌, arith, length-drop}
+use Rattle.std.proofs.Common.{◌≡◌, ◌-◌, ◌≤◌, length, take, drop, Ok, refl, ap, ◌∙◌, arith, length-drop}
 use Rattle.std.proofs.lemmas.Slice.{between_to_end}
 use Rattle.plant.specs.Closed.{among, shut}
 use Rattle.plant.specs.Shifted.{closed_list}
@@ -13,8 +13,8 @@ use Rattle.search.proofs.AnswerFacts.{written}
 use Rattle.search.proofs.MadeFacts.{search_accepts, search_refuses, enough_rows, one_fault, one_replied}
 use Rattle.search.proofs.calling.call_one.Goals as goal
 
-pub returns : goal.returns
-returns g c =
+pub returns-clause-makes : goal.returns-clause-makes
+returns-clause-makes g c =
     let k = g.P.Cost.CostKind.kind in
     let f = g.P.Plant.floor c.args.shift.now.below in
     let closed = closed_list c.args.shift.now in
@@ -22,21 +22,22 @@ returns g c =
     let s = c.args.start in
     let t = c.args.goal in
     let at = c.args.at in
-    let rows = c.args.rows.now in
+    let rows = c.args.areas.now.rows.now in
     let rows' = c.one_way.new.rows in
-    let routes = c.args.routes.now in
+    let back = c.args.areas.now.back_rows.now in
+    let routes = c.args.areas.now.routes.now in
     let part = c.one_way.new.route in
-    let a = areas (length rows) (length c.args.queue.now) 0 0 (length routes) in
+    let a = areas (length rows) (length c.args.areas.now.queue.now) (length back) (length c.args.areas.now.back_queue.now) (length routes) in
     let told = c.in_ok-answer.ensures in
     let left : length (take (length routes - at) (drop at routes)) ≡ length routes - at = ap length (between_to_end routes at (length routes) (omega arith)) ∙ length-drop at routes in
     let fault = told.fault ∙ one_fault k f closed s t a (length routes - at) _ left in
     let enough : f.nodes ≤ length rows = enough_rows f s t (length rows) _ fault in
     let near = written f.nodes rows' rows (one_way k F s t).rows (omega (arith, enough, c.one_way.auto.rows)) told.searched.rows_are told.searched.rows_past in
-    search_accepts at rows rows' [] [] routes c.requires (search_fault f s t (too_short f a (length routes - at) (One s t))) (answer k F at (One s t) (one_way k F s t).cost (one_route k F s t)) part
+    search_accepts at rows rows' back back routes c.requires (search_fault f s t (too_short f a (length routes - at) (One s t))) (answer k F at (One s t) (one_way k F s t).cost (one_route k F s t)) part
     (Ok (Told c.counted.result at)) fault (one_replied k f closed s t at c.in_ok-answer.answer c.counted.result told.searched.answer_is c.counted.ensures.scanned c.counted.ensures.route) near.1 refl told.searched.route_is c.one_way.auto.route
 
-pub returns-in_err-answer : goal.returns-in_err-answer
-returns-in_err-answer g c =
+pub returns-in_err-answer-clause-makes : goal.returns-in_err-answer-clause-makes
+returns-in_err-answer-clause-makes g c =
     let k = g.P.Cost.CostKind.kind in
     let f = g.P.Plant.floor c.args.shift.now.below in
     let closed = closed_list c.args.shift.now in
@@ -44,11 +45,12 @@ returns-in_err-answer g c =
     let s = c.args.start in
     let t = c.args.goal in
     let at = c.args.at in
-    let rows = c.args.rows.now in
-    let routes = c.args.routes.now in
-    let a = areas (length rows) (length c.args.queue.now) 0 0 (length routes) in
+    let rows = c.args.areas.now.rows.now in
+    let back = c.args.areas.now.back_rows.now in
+    let routes = c.args.areas.now.routes.now in
+    let a = areas (length rows) (length c.args.areas.now.queue.now) (length back) (length c.args.areas.now.back_queue.now) (length routes) in
     let told = c.in_err-answer.ensures in
     let left : length (take (length routes - at) (drop at routes)) ≡ length routes - at = ap length (between_to_end routes at (length routes) (omega arith)) ∙ length-drop at routes in
     let fault = told.fault ∙ one_fault k f closed s t a (length routes - at) _ left in
-    search_refuses at rows c.one_way.new.rows [] [] routes c.requires (search_fault f s t (too_short f a (length routes - at) (One s t))) (answer k F at (One s t) (one_way k F s t).cost (one_route k F s t)) c.one_way.new.route
+    search_refuses at rows c.one_way.new.rows back back routes c.requires (search_fault f s t (too_short f a (length routes - at) (One s t))) (answer k F at (One s t) (one_way k F s t).cost (one_route k F s t)) c.one_way.new.route
     c.in_err-answer.field-0.0 fault c.from_residual.result c.from_residual.ensures.1 told.searched.0 refl told.searched.2

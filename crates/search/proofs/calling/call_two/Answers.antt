@@ -13,8 +13,8 @@ use Rattle.search.proofs.AnswerFacts.{written}
 use Rattle.search.proofs.MadeFacts.{search_accepts, search_refuses, enough_rows, enough_back, two_fault_is, two_replied}
 use Rattle.search.proofs.calling.call_two.Goals as goal
 
-pub returns : goal.returns
-returns g c =
+pub returns-clause-makes : goal.returns-clause-makes
+returns-clause-makes g c =
     let k = g.P.Cost.CostKind.kind in
     let f = g.P.Plant.floor c.args.shift.now.below in
     let closed = closed_list c.args.shift.now in
@@ -22,13 +22,13 @@ returns g c =
     let s = c.args.start in
     let t = c.args.goal in
     let at = c.args.at in
-    let rows = c.args.rows.now in
+    let rows = c.args.areas.now.rows.now in
     let rows' = c.two_way.new.rows in
-    let back = c.args.back_rows.now in
+    let back = c.args.areas.now.back_rows.now in
     let back' = c.two_way.new.back in
-    let routes = c.args.routes.now in
+    let routes = c.args.areas.now.routes.now in
     let part = c.two_way.new.route in
-    let a = areas (length rows) (length c.args.queue.now) (length back) (length c.args.back_queue.now) (length routes) in
+    let a = areas (length rows) (length c.args.areas.now.queue.now) (length back) (length c.args.areas.now.back_queue.now) (length routes) in
     let told = c.in_ok-answer.ensures in
     let left : length (take (length routes - at) (drop at routes)) ≡ length routes - at = ap length (between_to_end routes at (length routes) (omega arith)) ∙ length-drop at routes in
     let fault = told.fault ∙ two_fault_is k f closed s t a (length routes - at) _ left in
@@ -39,8 +39,8 @@ returns g c =
     search_accepts at rows rows' back back' routes c.requires (search_fault f s t (too_short f a (length routes - at) (Two s t))) (answer k F at (Two s t) (two_way k F s t).met.cost (two_route k F s t)) part
     (Ok (Told c.counted.result at)) fault (two_replied k f closed s t at c.in_ok-answer.answer c.counted.result told.searched.answer_is c.counted.ensures.scanned c.counted.ensures.route) near.1 far.1 told.searched.route_is c.two_way.auto.route
 
-pub returns-in_err-answer : goal.returns-in_err-answer
-returns-in_err-answer g c =
+pub returns-in_err-answer-clause-makes : goal.returns-in_err-answer-clause-makes
+returns-in_err-answer-clause-makes g c =
     let k = g.P.Cost.CostKind.kind in
     let f = g.P.Plant.floor c.args.shift.now.below in
     let closed = closed_list c.args.shift.now in
@@ -48,10 +48,10 @@ returns-in_err-answer g c =
     let s = c.args.start in
     let t = c.args.goal in
     let at = c.args.at in
-    let rows = c.args.rows.now in
-    let back = c.args.back_rows.now in
-    let routes = c.args.routes.now in
-    let a = areas (length rows) (length c.args.queue.now) (length back) (length c.args.back_queue.now) (length routes) in
+    let rows = c.args.areas.now.rows.now in
+    let back = c.args.areas.now.back_rows.now in
+    let routes = c.args.areas.now.routes.now in
+    let a = areas (length rows) (length c.args.areas.now.queue.now) (length back) (length c.args.areas.now.back_queue.now) (length routes) in
     let told = c.in_err-answer.ensures in
     let left : length (take (length routes - at) (drop at routes)) ≡ length routes - at = ap length (between_to_end routes at (length routes) (omega arith)) ∙ length-drop at routes in
     let fault = told.fault ∙ two_fault_is k f closed s t a (length routes - at) _ left in

@@ -1,16 +1,16 @@
 use Rattle.std.proofs.Common.{◌≡◌, ◌-◌, length, ◌∙◌, arith}
 use Rattle.std.proofs.lemmas.List.{length-take-le}
-use Rattle.std.proofs.lemmas.Slice.{take-put_mid, drop-put_mid}
+use Rattle.std.proofs.lemmas.Slice.{take-put_mid}
 use Rattle.search.specs.Steps.{count_scanned}
 use Rattle.search.specs.OneWay.{one_way}
 use Rattle.search.proofs.AnswerFacts.{right_of}
-use Rattle.search.proofs.FaultFacts.{node_in, room_in, past_none}
+use Rattle.search.proofs.FaultFacts.{node_in, room_in}
 use Rattle.search.specs.declared.fault.SearchFault.TheVariants.{Start, Goal, Rows}
 use Rattle.search.proofs.Answers.{one_way_right}
 use Rattle.search.proofs.one_way.one_way.Goals as goal
 
-pub returns : goal.returns
-returns g c =
+pub returns-clause-right : goal.returns-clause-right
+returns-clause-right g c =
     let k = g.P.Cost.CostKind.kind in
     let laws = g.met.P.Cost.CostKind.lawful in
     let f = g.P.Plant.floor c.args.plant.now in
@@ -27,13 +27,4 @@ returns g c =
     let found = c.find.ensures in
     let long : length ys ≡ n - 0 = c.find.auto.rows ∙ length-take-le (n - 0) xs (omega (arith, rows, counts)) in
     let kept = take-put_mid 0 (n - 0) xs ys f.nodes (omega (arith, long, counts)) (omega arith) ∙ found.rows in
-    record {
-      fault = past_none c.in_ok-check_node.ensures (past_none c.in_ok-check_node-2.ensures (past_none c.in_ok-check_room.ensures (past_none c.in_ok-check_queue.ensures c.in_ok-check_room-2.ensures)));
-      searched = record {
-        rows_are = kept;
-        rows_past = drop-put_mid 0 (n - 0) xs ys f.nodes (omega (arith, counts)) (omega arith) long;
-        answer_is = found.answer;
-        route_is = found.route;
-      };
-      right = right_of k f start goal laws (one_way_right laws fl a b) (count_scanned (one_way k f start goal).rows) c.find.result c.args.route.now c.find.new.route _ found.answer found.route kept;
-    }
+    right_of k f start goal laws (one_way_right laws fl a b) (count_scanned (one_way k f start goal).rows) c.find.result c.args.route.now c.find.new.route _ found.answer found.route kept

@@ -25,8 +25,8 @@ overflow_sub-from g c =
     let count : n ≡ length front + 1 = first_count n 0 xs [] [] front [] via h e in
     omega (arith, count)
 
-pub walk_back-more-requires : goal.walk_back-more-requires
-walk_back-more-requires g c =
+pub walk_back-more-requires-clause-route : goal.walk_back-more-requires-clause-route
+walk_back-more-requires-clause-route g c =
     let k = g.P.Cost.CostKind.kind in
     let f = g.P.Plant.floor c.args.plant.now in
     let start = c.args.start in
@@ -44,7 +44,7 @@ walk_back-more-requires g c =
     let count : n ≡ length front + 1 = first_count n 0 xs [] [] front [] via h e in
     let whole = joined_length k f start goal rows back via some in
     let part : length (take (length xs - (n - 1)) (drop (n - 1) xs)) ≡ length xs - (n - 1) = length-take-le (length xs - (n - 1)) (drop (n - 1) xs) (omega (arith, length-drop (n - 1) xs)) in
-    record { rows = c.requires.back; goal = c.requires.via; route = omega (arith, part, whole, count, c.requires.short, c.requires.route, c.write_route-from.auto.route) }
+    omega (arith, part, whole, count, c.requires.short, c.requires.route, c.write_route-from.auto.route)
 
 pub returns : goal.returns
 returns g c =

@@ -1,36 +1,15 @@
-use Rattle.std.proofs.Common.{◌≡◌, ◌+◌, ◌<◌, ◌≤◌, List, length, get_or, set, sym, refl, ap, ◌∙◌, subst, arith, rules}
+use Rattle.std.proofs.Common.{◌≡◌, ◌+◌, ◌<◌, ◌≤◌, List, length, get_or, set, sym, ap, ◌∙◌, subst, arith}
 use Rattle.std.proofs.lemmas.List.{drop_more}
+use Rattle.plant.specs.Closed.{among}
+use Rattle.plant.specs.LayerFacts.{shut_laws}
 use Rattle.plant.specs.Shifted.{closed_list}
 use Rattle.search.specs.declared.call.Call.TheVariants.{Close}
 use Rattle.search.specs.Calls.{Reply}
-use Rattle.search.specs.Calls.{areas}
+use Rattle.search.specs.Lent.{lengths}
 use Rattle.search.specs.Serving.{Serving}
-use Rattle.search.proofs.ServeFacts.{made-same, serving_none, serving_more, serving_fits, all_replies, all_routes, all_closed, all_near, all_far}
+use Rattle.search.proofs.Life.{fresh_life}
+use Rattle.search.proofs.ServeFacts.{lengths_same, routes_long, same_after, made-same, serving_more, all_replies, all_routes, all_near, all_far, all_closed}
 use Rattle.search.proofs.serve.call_all.Goals as goal
-
-pub loop-i-init : goal.loop-i-init
-loop-i-init g c = (serving_none, refl)
-
-pub call_on-reply-requires : goal.call_on-reply-requires
-call_on-reply-requires g c = c.loop-i.invariant.0.fits
-
-pub put_reply-requires : goal.put_reply-requires
-put_reply-requires g c = omega (arith, c.requires, c.loop-i-test.true, c.loop-i.auto.replies)
-
-pub overflow_add-at : goal.overflow_add-at
-overflow_add-at g c =
-    let k = g.P.Cost.CostKind.kind in
-    let f = g.P.Plant.floor c.args.shift.now.below in
-    let l = c.loop-i in
-    let calls = c.args.calls.now in
-    let a = areas (length c.args.rows.now) (length c.args.queue.now) (length c.args.back_rows.now) (length c.args.back_queue.now) (length c.args.routes.now) in
-    let closed = closed_list l.shift in
-    let call = get_or calls l.i (Close 0) in
-    let floor-is : g.P.Plant.floor l.shift.below ≡ f = ap g.P.Plant.floor l.invariant.1 in
-    let areas-are : areas (length l.rows) (length l.queue) (length l.back_rows) (length l.back_queue) (length l.routes) ≡ a = λ j. areas (l.auto.rows j) (l.auto.queue j) (l.auto.back_rows j) (l.auto.back_queue j) (l.auto.routes j) in
-    let m = made-same k closed l.at call floor-is areas-are c.call_on-reply.ensures.makes in
-    let h : l.at + c.nodes_of-at.result ≤ length l.routes = serving_fits l.invariant.0 call (drop_more calls l.i (Close 0) c.loop-i-test.true) m c.call_on-reply.ensures.closed c.nodes_of-at.ensures in
-    search rules
 
 pub loop-i-preserved : goal.loop-i-preserved
 loop-i-preserved g c =
@@ -38,30 +17,33 @@ loop-i-preserved g c =
     let f = g.P.Plant.floor c.args.shift.now.below in
     let l = c.loop-i in
     let calls = c.args.calls.now in
-    let a = areas (length c.args.rows.now) (length c.args.queue.now) (length c.args.back_rows.now) (length c.args.back_queue.now) (length c.args.routes.now) in
+    let a = lengths c.args.areas.now in
     let closed = closed_list l.shift in
     let call = get_or calls l.i (Close 0) in
-    let floor-is : g.P.Plant.floor l.shift.below ≡ f = ap g.P.Plant.floor l.invariant.1 in
-    let areas-are : areas (length l.rows) (length l.queue) (length l.back_rows) (length l.back_queue) (length l.routes) ≡ a = λ j. areas (l.auto.rows j) (l.auto.queue j) (l.auto.back_rows j) (l.auto.back_queue j) (l.auto.routes j) in
+    let floor-is : g.P.Plant.floor l.shift.below ≡ f = ap g.P.Plant.floor l.invariant.below in
+    let areas-are : lengths l.areas ≡ a = lengths_same c.args.areas.now l.areas l.invariant.same in
     let m = made-same k closed l.at call floor-is areas-are c.call_on-reply.ensures.makes in
     let lt : l.i < length l.replies = omega (arith, c.requires, c.loop-i-test.true, l.auto.replies) in
-    let more = serving_more l.invariant.0 call (drop_more calls l.i (Close 0) c.loop-i-test.true) m c.call_on-reply.ensures.closed c.nodes_of-at.ensures lt c.call_on-reply.auto.routes in
+    let more = serving_more l.invariant.served call (drop_more calls l.i (Close 0) c.loop-i-test.true) m c.call_on-reply.ensures.closed c.nodes_of-at.ensures lt (routes_long l.areas c.call_on-reply.new.areas c.call_on-reply.ensures.same) in
     let put : set l.replies l.i c.call_on-reply.result ≡ c.put_reply.new.replies = sym c.put_reply.ensures in
-    let P : List (Reply g.row.P-Cost.Denot) → Type 0 = λ xs. Serving k f a calls (closed_list c.args.shift.now) c.args.replies.now c.args.routes.now c.args.rows.now c.args.back_rows.now (l.i + 1) (l.at + c.nodes_of-at.result) (closed_list c.call_on-reply.new.shift) xs c.call_on-reply.new.routes c.call_on-reply.new.rows c.call_on-reply.new.back_rows in
-    (subst P put more, c.call_on-reply.ensures.below ∙ l.invariant.1)
+    let P : List (Reply g.row.P-Cost.Denot) → Type 0 = λ xs. Serving k f a calls (closed_list c.args.shift.now) c.args.replies.now c.args.areas.now.routes.now c.args.areas.now.rows.now c.args.areas.now.back_rows.now (l.i + 1) (l.at + c.nodes_of-at.result) (closed_list c.call_on-reply.new.shift) xs c.call_on-reply.new.areas.routes.now c.call_on-reply.new.areas.rows.now c.call_on-reply.new.areas.back_rows.now in
+    record { served = subst P put more; below = c.call_on-reply.ensures.below ∙ l.invariant.below; same = same_after c.args.areas.now l.areas l.invariant.same c.call_on-reply.new.areas c.call_on-reply.ensures.same }
 
-pub returns : goal.returns
-returns g c =
+pub returns-clause-made : goal.returns-clause-made
+returns-clause-made g c =
     let l = c.loop-i in
     let all : length c.args.calls.now ≤ l.i = c.loop-i-test.false in
     let fits : l.i ≤ length l.replies = omega (arith, c.requires, l.auto.replies, l.auto.i-end) in
     record {
-      made = record {
-        replies_are = all_replies l.invariant.0 all fits;
-        routes_are = all_routes l.invariant.0 all;
-        rows_are = all_near l.invariant.0 all;
-        back_are = all_far l.invariant.0 all;
-      };
-      closed = all_closed l.invariant.0 all;
-      below = l.invariant.1;
+      replies_are = all_replies l.invariant.served all fits;
+      routes_are = all_routes l.invariant.served all;
+      rows_are = all_near l.invariant.served all;
+      back_are = all_far l.invariant.served all;
     }
+
+pub returns-clause-life : goal.returns-clause-life
+returns-clause-life g c =
+    let laws = g.met.P.Cost.CostKind.lawful in
+    let shift = c.args.shift.now in
+    let floor = shut_laws laws (among (closed_list shift)) (g.met.P.Plant.lawful shift.below) in
+    fresh_life {routes = c.args.areas.now.routes.now} laws floor (returns-clause-made g c) (all_closed c.loop-i.invariant.served c.loop-i-test.false)

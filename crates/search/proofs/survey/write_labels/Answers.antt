@@ -1,5 +1,4 @@
-use Rattle.std.proofs.Common.{◌≡◌, ℕ, ◌<◌, List, map, length, take, set, sym, ap, ◌∙◌, arith}
-use lib.Seq.{take-length}
+use Rattle.std.proofs.Common.{◌<◌, List, map, length, take, set, sym, ap, ◌∙◌, arith}
 use Rattle.search.specs.declared.row.Row.{Row}
 use Rattle.search.specs.Lists.{onto}
 use Rattle.search.specs.Steps.{label_of}
@@ -15,9 +14,3 @@ loop-i-preserved g c =
     ap (λ (l : List g.row.C.Denot). set l i item.label) c.loop-i.invariant
     ∙ ap (λ (r : Row g.row.C.Denot). set (onto (map label_of (take i rows)) c.args.costs.now) i r.label) c.index-rows-i.is
     ∙ sym (onto_labels rows c.args.costs.now i c.index-rows-i.result c.loop-i-test.true lt)
-
-pub returns : goal.returns
-returns g c =
-    let rows = c.args.rows.now in
-    let e : c.loop-i.i ≡ length rows = omega (arith, c.loop-i-test.false, c.loop-i.auto.i-end) in
-    c.loop-i.invariant ∙ ap (λ (l : List (Row g.row.C.Denot)). onto (map label_of l) c.args.costs.now) (ap (λ (n : ℕ). take n rows) e ∙ take-length rows)

@@ -1,13 +1,13 @@
 use Rattle.std.proofs.Common.{◌≡◌, ◌-◌, length, ◌∙◌, arith}
 use Rattle.std.proofs.lemmas.List.{length-take-le}
-use Rattle.std.proofs.lemmas.Slice.{take-put_mid, drop-put_mid}
+use Rattle.std.proofs.lemmas.Slice.{take-put_mid}
 use Rattle.search.proofs.BothFacts.{right_both}
-use Rattle.search.proofs.FaultFacts.{node_in, room_in, past_none}
+use Rattle.search.proofs.FaultFacts.{node_in, room_in}
 use Rattle.search.specs.declared.fault.SearchFault.TheVariants.{Start, Goal, Rows}
 use Rattle.search.proofs.two_way.two_way.Goals as goal
 
-pub returns : goal.returns
-returns g c =
+pub returns-clause-right : goal.returns-clause-right
+returns-clause-right g c =
     let k = g.P.Cost.CostKind.kind in
     let laws = g.met.P.Cost.CostKind.lawful in
     let f = g.P.Plant.floor c.args.plant.now in
@@ -29,15 +29,4 @@ returns g c =
     let long' : length ys' ≡ n - 0 = c.find_both.auto.back ∙ length-take-le (n - 0) xs' (omega (arith, rows', counts)) in
     let kept = take-put_mid 0 (n - 0) xs ys f.nodes (omega (arith, long, counts)) (omega arith) ∙ found.rows in
     let kept' = take-put_mid 0 (n - 0) xs' ys' f.nodes (omega (arith, long', counts)) (omega arith) ∙ found.back in
-    record {
-      fault = past_none c.in_ok-check_node.ensures (past_none c.in_ok-check_node-2.ensures (past_none c.in_ok-check_room.ensures (past_none c.in_ok-check_room-2.ensures (past_none c.in_ok-check_queue.ensures (past_none c.in_ok-check_queue-2.ensures c.in_ok-check_room-3.ensures)))));
-      searched = record {
-        rows_are = kept;
-        rows_past = drop-put_mid 0 (n - 0) xs ys f.nodes (omega (arith, counts)) (omega arith) long;
-        back_are = kept';
-        back_past = drop-put_mid 0 (n - 0) xs' ys' f.nodes (omega (arith, counts)) (omega arith) long';
-        answer_is = found.answer;
-        route_is = found.route;
-      };
-      right = right_both k f start goal laws fl a b c.find_both.result c.args.route.now c.find_both.new.route _ _ found.answer found.route kept kept';
-    }
+    right_both k f start goal laws fl a b c.find_both.result c.args.route.now c.find_both.new.route _ _ found.answer found.route kept kept'
