@@ -8,27 +8,26 @@ ghost use Rattle.plants.specs.Faults.{index_lengths_fit, lengths_fit};
 use crate::draft::Draft;
 use crate::fault::PlantFault;
 
-// How long the heads and the three index lists are.
+// How long the three index lists are.
 #[derive(Clone, Copy, PartialEq, Eq)]
 pub(crate) struct IndexLengths {
-    pub(crate) heads: usize,
     pub(crate) outs: usize,
     pub(crate) ins: usize,
     pub(crate) by: usize,
 }
 
 impl IndexLengths {
-    // Whether they are those for so many nodes and lanes.
-    pub(crate) fn fit(self, nodes: u32, lanes: usize) -> bool
-        ensures { result ≡ index_lengths_fit nodes lanes self.heads self.outs self.ins self.by }
+    // Whether there are as many heads as lanes, and an index of theirs is so long.
+    pub(crate) fn fit(self, nodes: u32, lanes: usize, heads: usize) -> bool
+        ensures { result ≡ index_lengths_fit nodes lanes heads self.outs self.ins self.by }
     {
         let firsts = nodes as usize + 1;
-        self == IndexLengths {
-            heads: lanes,
+        let fitting = IndexLengths {
             outs: firsts,
             ins: firsts,
             by: lanes,
-        }
+        };
+        heads == lanes && self == fitting
     }
 }
 
@@ -40,12 +39,11 @@ impl Draft<'_> {
         let lanes = lists.tails.len();
         let size = self.landmarks as usize * self.nodes as usize;
         let index = IndexLengths {
-            heads: lists.heads.len(),
             outs: lists.first_out.len(),
             ins: lists.first_in.len(),
             by: lists.by_head.len(),
         };
-        if index.fit(self.nodes, lanes)
+        if index.fit(self.nodes, lanes, lists.heads.len())
             && lists.costs.len() == lanes
             && lists.to.len() == size
             && lists.from.len() == size
