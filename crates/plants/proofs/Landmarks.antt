@@ -8,6 +8,12 @@ use Rattle.plants.specs.Columns.{Columns, lane_count, row}
 use Rattle.plants.specs.Faults.{first_failing, or_else, table_fits, table_fault}
 use Rattle.plants.proofs.Stages.{walk_named, walk_passes}
 
+-- the part of a table that belongs to landmark m, and what is left after it
+pub record Row (n all m : ℕ) (table part later : List ℕ) : Type 0 where
+  pub next : m < all
+  pub is : part ≡ row n table m
+  pub left : later ≡ drop ((m + 1) * n) table
+
 -- a table of all landmarks, of which the first m are passed
 module _ (n all m : ℕ) (table rest : List ℕ) (some : 0 < n) (size : length table ≡ all * n) (is : rest ≡ drop (m * n) table) where
   rest_size : length rest ≡ all * n - m * n
@@ -21,22 +27,19 @@ module _ (n all m : ℕ) (table rest : List ℕ) (some : 0 < n) (size : length t
       (λ (le : all ≤ m). le)
       (cases_lt m all)
 
-  module _ (part later : List ℕ) (split : rest ≡ part ++ later) (long : length part ≡ n) where
-    pub row_next : m < all
-    row_next =
+  -- what is split off is the row of the next landmark
+  pub row_next : (part later : List ℕ) → rest ≡ part ++ later → length part ≡ n → Row n all m table part later
+  row_next part later split long = record {
+    next =
         ⊎_elim
         (λ (lt : m < all). lt)
         (λ (le : all ≤ m). omega (arith, rest_size, ap length split, length-append part later, mul-le-mul_right n le))
-        (cases_lt m all)
-
-    -- what is split off is the row of the next landmark
-    pub row_part : part ≡ row n table m
-    row_part = sym (take-append_seam part later) ∙ (λ i. take (long i) (sym split i)) ∙ ap (take n) is
-
-    pub rest_next : later ≡ drop ((m + 1) * n) table
-    rest_next =
+        (cases_lt m all);
+    is = sym (take-append_seam part later) ∙ (λ i. take (long i) (sym split i)) ∙ ap (take n) is;
+    left =
         let e : m * n + n ≡ (m + 1) * n = omega (arith, add-mul m 1 n, one-mul n) in
-        sym (drop-append_seam part later) ∙ (λ i. drop (long i) (sym split i)) ∙ ap (drop n) is ∙ drop-drop n (m * n) table ∙ ap (λ (k : ℕ). drop k table) e
+        sym (drop-append_seam part later) ∙ (λ i. drop (long i) (sym split i)) ∙ ap (drop n) is ∙ drop-drop n (m * n) table ∙ ap (λ (k : ℕ). drop k table) e;
+  }
 
 module _ (n all m : ℕ) (c : Columns) (inv : table_fault n c m (all - m) ≡ table_fault n c 0 all) where
   pub walk_ends : all ≤ m → None ≡ table_fault n c 0 all

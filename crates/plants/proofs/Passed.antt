@@ -1,12 +1,12 @@
 -- What holds of lists that pass a test.
-use Rattle.std.proofs.Common.{◌≡◌, ℕ, suc, ◌+◌, ◌*◌, ◌<◌, ◌≤◌, true, cond, ◌&&◌, eqb, ltb, leb, List, length, get_or, Some, None, arith}
+use Rattle.std.proofs.Common.{◌≡◌, ℕ, suc, ◌+◌, ◌*◌, ◌<◌, ◌≤◌, true, ◌&&◌, eqb, ltb, leb, List, length, get_or, None, arith}
 use Rattle.std.proofs.lemmas.Bool.{and_parts, leb-true, ltb-true, eqb-true}
-use Rattle.plants.specs.declared.fault.PlantFault.TheVariants.{Counts, Lengths, Ends}
+use Rattle.plants.specs.declared.fault.PlantFault.TheVariants.{Ends}
 use Rattle.plants.specs.Columns.{Columns, lane_count}
-use Rattle.plants.specs.Faults.{counts_fit, index_lengths_fit, lengths_fit, ends_fit, tail_before, first_failing, or_else, index_fault}
+use Rattle.plants.specs.Faults.{counts_fit, index_lengths_fit, lengths_fit, ends_fit, tail_before, first_failing, or_else}
 use Rattle.plants.specs.Tally.{Within}
 use Rattle.plants.specs.FirstFailing.{none_fails}
-use Rattle.plants.proofs.Stages.{test_passed, walk_passes}
+use Rattle.plants.proofs.Stages.{walk_passes}
 
 pub record CountsFit (nodes lanes landmarks : ℕ) : Type 0 where
   pub some : 1 ≤ nodes
@@ -79,11 +79,3 @@ countable nodes landmarks tails heads counts size ends =
       record { small = c.small; few = c.few; within = tails_within nodes tails heads e },
       record { small = c.small; few = omega (arith, size, c.few); within = heads_within nodes tails heads e size },
     )
-
--- the lengths of lists that an index can be made in
-pub index_sizes : (nodes : ℕ) (tails heads : List ℕ) (outs ins by : ℕ) → None ≡ index_fault nodes tails heads outs ins by → IndexSized nodes (length tails) (length heads) outs ins by
-index_sizes nodes tails heads outs ins by h =
-    let sizes-fit = index_lengths_fit nodes (length tails) (length heads) outs ins by in
-    let ends = or_else (λ k. Ends k) (first_failing (ends_fit nodes tails heads) 0 (length tails)) None in
-    let p = test_passed (counts_fit nodes (length tails) 0) (cond sizes-fit ends (Some Lengths)) Counts h in
-    index_sized nodes (length tails) (length heads) outs ins by (test_passed sizes-fit ends Lengths p.1).0

@@ -1,8 +1,7 @@
 -- Bounds from landmarks: what the tables allow, no lane makes fall by more than its cost.
-use Rattle.std.proofs.Common.{◌≡◌, ℕ, zero, suc, ◌+◌, ◌-◌, ◌*◌, ◌<◌, ◌≤◌, max, ◌&&◌, ltb, ◌⊎◌, List, get_or, drop, refl, ◌∙◌, ⊎_elim, arith}
-use Rattle.std.proofs.lemmas.List.{get_or-take, get_or-drop}
+use Rattle.std.proofs.Common.{◌≡◌, ℕ, zero, suc, ◌+◌, ◌<◌, ◌≤◌, ◌&&◌, ltb, ◌⊎◌, get_or, refl, ⊎_elim, arith}
 use Rattle.std.proofs.lemmas.Bool.{and_from, and_left, and_right, lt-ltb, le-ltb, cond-true, cond-false}
-use Rattle.plants.specs.Columns.{Columns, lane_count, row}
+use Rattle.plants.specs.Columns.{Columns, lane_count}
 use Rattle.plants.specs.Laid.{metres_of, greatest, shown, bound_of}
 use Rattle.plants.specs.Lawful.{Lawful}
 
@@ -15,10 +14,6 @@ no_more f g cost zero each = omega arith
 no_more f g cost (suc n) each =
     let rest = no_more f g cost n (λ m lt. each m (omega arith)) in omega (arith, each n (omega arith))
 
--- what a landmark's row has at a node, by its place in the whole table
-row_at : (nodes : ℕ) (table : List ℕ) (m v : ℕ) → v < nodes → get_or (row nodes table m) v 0 ≡ get_or table (m * nodes + v) 0
-row_at nodes table m v lt = get_or-take nodes (drop (m * nodes) table) v 0 lt ∙ get_or-drop (m * nodes) table v 0
-
 module _ (nodes landmarks : ℕ) (c : Columns) where
   pub bound_inside : (v w : ℕ) → v < nodes → w < nodes → bound_of nodes landmarks c v w ≡ metres_of (greatest (shown nodes c v w) landmarks)
   bound_inside v w lv lw = cond-true (ltb v nodes && ltb w nodes) _ _ (and_from _ _ (lt-ltb v nodes lv) (lt-ltb w nodes lw))
@@ -27,15 +22,6 @@ module _ (nodes landmarks : ℕ) (c : Columns) where
   bound_none v w past =
       cond-false (ltb v nodes && ltb w nodes) _ _
       (⊎_elim (λ le. and_left (ltb v nodes) (ltb w nodes) (le-ltb v nodes le)) (λ le. and_right (ltb v nodes) (ltb w nodes) (le-ltb w nodes le)) past)
-
-  -- a landmark shows what the whole tables have at the two places of its rows
-  pub shown_at : (v w m : ℕ) → v < nodes → w < nodes → shown nodes c v w m ≡ max (get_or c.to (m * nodes + v) 0 - get_or c.to (m * nodes + w) 0) (get_or c.from (m * nodes + w) 0 - get_or c.from (m * nodes + v) 0)
-  shown_at v w m lv lw =
-      let to-v = row_at nodes c.to m v lv in
-      let to-w = row_at nodes c.to m w lw in
-      let from-v = row_at nodes c.from m v lv in
-      let from-w = row_at nodes c.from m w lw in
-      λ i. max (to-v i - to-w i) (from-w i - from-v i)
 
   pub shown_self : (v : ℕ) → greatest (shown nodes c v v) landmarks ≡ 0
   shown_self v = none_greater (shown nodes c v v) landmarks (λ m. omega arith)

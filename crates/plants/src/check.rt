@@ -17,7 +17,7 @@ pub(crate) fn at(xs: &[u32], i: usize) -> u32
 pub fn check_counts(nodes: u32, lanes: usize, landmarks: u32) -> Result<(), PlantFault>
     ensures { result_err result ≡ (if counts_fit nodes lanes landmarks then None else Some Counts) }
 {
-    if 1 <= nodes && nodes <= 4096 && lanes <= 16384 && landmarks <= 16 {
+    if (1..=4096).contains(&nodes) && lanes <= 16384 && landmarks <= 16 {
         Ok(())
     } else {
         Err(PlantFault::Counts)

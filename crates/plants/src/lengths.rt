@@ -5,51 +5,52 @@ ghost use Rattle.plants.specs.declared.fault.PlantFault.TheVariants.{Lengths};
 ghost use Rattle.plants.specs.Columns.{columns};
 ghost use Rattle.plants.specs.Faults.{index_lengths_fit, lengths_fit};
 
+use crate::draft::Draft;
 use crate::fault::PlantFault;
-use crate::lists::Lists;
 
-// How long the heads and the three index lists are.
+// How long the three index lists are.
 #[derive(Clone, Copy, PartialEq, Eq)]
 pub(crate) struct IndexLengths {
-    pub(crate) heads: usize,
     pub(crate) outs: usize,
     pub(crate) ins: usize,
     pub(crate) by: usize,
 }
 
 impl IndexLengths {
-    // Whether they are those for so many nodes and lanes.
-    pub(crate) fn fit(self, nodes: u32, lanes: usize) -> bool
-        ensures { result ≡ index_lengths_fit nodes lanes self.heads self.outs self.ins self.by }
+    // Whether there are as many heads as lanes, and an index of theirs is so long.
+    pub(crate) fn fit(self, nodes: u32, lanes: usize, heads: usize) -> bool
+        ensures { result ≡ index_lengths_fit nodes lanes heads self.outs self.ins self.by }
     {
         let firsts = nodes as usize + 1;
-        self == IndexLengths {
-            heads: lanes,
+        let fitting = IndexLengths {
             outs: firsts,
             ins: firsts,
             by: lanes,
-        }
+        };
+        heads == lanes && self == fitting
     }
 }
 
-pub(crate) fn check_lengths(nodes: u32, landmarks: u32, lists: Lists) -> Result<(), PlantFault>
-    ensures { result_err result ≡ (if lengths_fit nodes landmarks (columns lists.entry) then None else Some Lengths) }
-{
-    let lanes = lists.tails.len();
-    let size = landmarks as usize * nodes as usize;
-    let index = IndexLengths {
-        heads: lists.heads.len(),
-        outs: lists.first_out.len(),
-        ins: lists.first_in.len(),
-        by: lists.by_head.len(),
-    };
-    if index.fit(nodes, lanes)
-        && lists.costs.len() == lanes
-        && lists.to.len() == size
-        && lists.from.len() == size
+impl Draft<'_> {
+    pub(crate) fn check_lengths(self) -> Result<(), PlantFault>
+        ensures { result_err result ≡ (if lengths_fit self.entry.nodes self.entry.landmarks (columns self.entry.lists) then None else Some Lengths) }
     {
-        Ok(())
-    } else {
-        Err(PlantFault::Lengths)
+        let lists = self.lists;
+        let lanes = lists.tails.len();
+        let size = self.landmarks as usize * self.nodes as usize;
+        let index = IndexLengths {
+            outs: lists.first_out.len(),
+            ins: lists.first_in.len(),
+            by: lists.by_head.len(),
+        };
+        if index.fit(self.nodes, lanes, lists.heads.len())
+            && lists.costs.len() == lanes
+            && lists.to.len() == size
+            && lists.from.len() == size
+        {
+            Ok(())
+        } else {
+            Err(PlantFault::Lengths)
+        }
     }
 }

@@ -3,6 +3,7 @@
 
 pub mod check;
 mod direction;
+mod draft;
 pub mod fault;
 mod firsts;
 mod groups;

@@ -1,6 +1,7 @@
 // The lists that a lane plant is made from; they belong to the caller.
 
 // A compressed sparse row graph, by tail and by head, with the tables of its landmarks. `L` is how a list is held.
+// Eight lists side by side, and not one of structs: the caller lends each as plain numbers, since there is no heap.
 #[derive(Clone, Copy, Drop)]
 pub struct ListsOf<L> {
     // by lane number; tails never fall

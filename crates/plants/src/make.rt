@@ -6,33 +6,35 @@ ghost use Rattle.plants.specs.Faults.{plant_fault, index_fits};
 ghost use Rattle.plants.specs.Lone.{lone_columns};
 
 use crate::check::{check_costs, check_counts, check_ends};
+use crate::draft::Draft;
 use crate::fault::PlantFault;
 use crate::lane_ends::Ends;
 use crate::lane_plant::LanePlant;
-use crate::lengths::check_lengths;
 use crate::lists::Lists;
-use crate::tables::check_tables;
 
-// The six tests in order, each in time linear in the lists that it reads.
-fn test(nodes: u32, landmarks: u32, lists: Lists) -> Result<(), PlantFault>
-    ensures { result_err result ≡ plant_fault nodes landmarks (columns lists.entry) }
-{
-    check_counts(nodes, lists.tails.len(), landmarks)?;
-    check_lengths(nodes, landmarks, lists)?;
-    check_ends(nodes, lists.tails, lists.heads)?;
-    check_costs(lists.costs)?;
-    let tails = Ends {
-        nodes,
-        list: lists.tails,
-    };
-    let heads = Ends {
-        nodes,
-        list: lists.heads,
-    };
-    if !fits_index(tails, heads, lists) {
-        return Err(PlantFault::Index);
+impl Draft<'_> {
+    // The six tests in order, each in time linear in the lists that it reads.
+    fn test(self) -> Result<(), PlantFault>
+        ensures { result_err result ≡ plant_fault self.entry.nodes self.entry.landmarks (columns self.entry.lists) }
+    {
+        let lists = self.lists;
+        check_counts(self.nodes, lists.tails.len(), self.landmarks)?;
+        self.check_lengths()?;
+        check_ends(self.nodes, lists.tails, lists.heads)?;
+        check_costs(lists.costs)?;
+        let tails = Ends {
+            nodes: self.nodes,
+            list: lists.tails,
+        };
+        let heads = Ends {
+            nodes: self.nodes,
+            list: lists.heads,
+        };
+        if !fits_index(tails, heads, lists) {
+            return Err(PlantFault::Index);
+        }
+        self.check_tables()
     }
-    check_tables(nodes, landmarks, lists)
 }
 
 // Whether the three index lists are those of the tails and heads. All are made anew, and compared.
@@ -53,7 +55,12 @@ impl<'a> LanePlant<'a> {
         ensures fault { result_err result ≡ plant_fault nodes landmarks (columns lists.entry) }
         ensures made { IfOk result (λ plant. (plant.nodes ≡ nodes) × (plant.landmarks ≡ landmarks) × (columns plant.lists ≡ columns lists.entry)) }
     {
-        test(nodes, landmarks, lists)?;
+        let draft = Draft {
+            nodes,
+            landmarks,
+            lists,
+        };
+        draft.test()?;
         Ok(LanePlant {
             nodes,
             landmarks,

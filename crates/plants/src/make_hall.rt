@@ -13,7 +13,7 @@ impl<'a> Hall<'a> {
         ensures made { IfOk result (λ hall. (hall.rows ≡ rows) × (hall.columns ≡ columns) × (hall.cells.now ≡ cells.now)) }
     {
         // the product of two 32-bit numbers fits 64 bits
-        if rows == 0 || columns == 0 || rows as u64 * columns as u64 > 4096 {
+        if rows == 0 || columns == 0 || u64::from(rows) * u64::from(columns) > 4096 {
             return Err(PlantFault::Counts);
         }
         if cells.len() != (rows * columns) as usize {

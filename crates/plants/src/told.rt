@@ -9,6 +9,7 @@ impl From<PlantFault> for Refusal {
     ghost from_gives = { λ fault told. told ≡ refusal_of fault };
 
     fn from(fault: PlantFault) -> Refusal {
+        // the numbers are what a user is told, and the places that a fault names
         let (number, first, second) = match fault {
             PlantFault::Counts => (1, 0, 0),
             PlantFault::Lengths => (2, 0, 0),
@@ -27,6 +28,7 @@ impl From<PlantFault> for Refusal {
 }
 
 impl PlantFault {
+    // How the fault is told.
     pub fn refusal(self) -> Refusal
         ensures { result ≡ refusal_of self }
     {

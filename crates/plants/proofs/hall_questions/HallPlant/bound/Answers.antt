@@ -1,7 +1,7 @@
 -- The bound is the byte of the node to reach, or zero where the two are one or one is no node.
 use Rattle.std.proofs.Common.{sym, ◌∙◌, inl, inr}
 use Rattle.plants.specs.HallLanes.{class_is}
-use Rattle.plants.specs.HallLaws.{bound_none, bound_same, bound_other}
+use Rattle.plants.specs.HallLaws.{bound_none, bound_same}
 use Rattle.plants.proofs.hall_questions.HallPlant.bound.Goals as goal
 use Rattle.plants.proofs.hall_questions.HallPlant.bound.Goals.{then-v-nodes-via-then-v-nodes, then-v-nodes-via-else-v-nodes+then-w-nodes, then-v-nodes-via-else-v-nodes+else-w-nodes+then-v-w}
 
@@ -13,8 +13,3 @@ returns-then-v-nodes c =
       | then-v-nodes-via-else-v-nodes+then-w-nodes w ↦ sym (bound_none _ _ c.args.v c.args.w (inr w.if-w-nodes.true))
       | then-v-nodes-via-else-v-nodes+else-w-nodes+then-v-w w ↦ sym (bound_same _ _ c.args.v c.args.w w.if-v-w.true)
     ]
-
-pub returns : goal.returns
-returns c =
-    class_is c.from-2.result _ c.from-2.ensures
-    ∙ sym (bound_other _ _ c.args.v c.args.w c.if-v-nodes.false c.if-w-nodes.false c.if-v-w.false)

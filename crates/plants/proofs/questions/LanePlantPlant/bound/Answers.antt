@@ -1,12 +1,12 @@
 -- The best after the last landmark is the greatest that any shows.
-use Rattle.std.proofs.Common.{◌≡◌, ◌+◌, ◌-◌, ◌<◌, ◌≤◌, max, ◌⊎◌, get_or, sym, refl, ap, ◌∙◌, inl, inr, ⊎_elim, add-one, arith, rules}
+use Rattle.std.proofs.Common.{◌≡◌, ◌+◌, ◌-◌, ◌≤◌, max, ◌⊎◌, get_or, sym, refl, ap, ◌∙◌, inl, inr, ⊎_elim, add-one, arith, rules}
 use Rattle.std.proofs.lemmas.Grind.{common_steps}
-use Rattle.plants.specs.Columns.{columns, row}
+use Rattle.plants.specs.Columns.{columns}
 use Rattle.plants.specs.Laid.{greatest, shown}
 use Rattle.plants.specs.Lawful.{kept}
 use Rattle.plants.specs.Lanes.{metres_is}
 use Rattle.plants.specs.Bounds.{bound_inside, bound_none}
-use Rattle.plants.proofs.Landmarks.{rows_end, row_next, row_part, rest_next}
+use Rattle.plants.proofs.Landmarks.{rows_end, row_next}
 use Rattle.plants.proofs.questions.LanePlantPlant.bound.Goals as goal
 use Rattle.plants.proofs.questions.LanePlantPlant.bound.Goals.{then-v-self-via-then-v-self, then-v-self-via-else-v-self+then-w-self}
 
@@ -37,18 +37,17 @@ loop-to-preserved c =
     let i = c.loop-to.invariant in
     let s = c.in-Some.ensures.steps in
     let f = shown n l c.args.v c.args.w in
-    let to : c.in-Some.to.now ≡ row n l.to i.m = row_part n p.landmarks i.m l.to _ k.some k.to_size i.to c.in-Some.to.now _ s.0.1.0 (s.0.1.1 ∙ i.to_size) in
-    let from : c.in-Some.from.now ≡ row n l.from i.m = row_part n p.landmarks i.m l.from _ k.some k.from_size i.from c.in-Some.from.now _ s.1.1.0 (s.1.1.1 ∙ i.from_size) in
-    let lt : i.m < p.landmarks = row_next n p.landmarks i.m l.to _ k.some k.to_size i.to c.in-Some.to.now _ s.0.1.0 (s.0.1.1 ∙ i.to_size) in
-    let here : c.gap.result ≡ f i.m = c.gap.ensures ∙ (λ j. max (get_or (to j) c.args.v 0 - get_or (to j) c.args.w 0) (get_or (from j) c.args.w 0 - get_or (from j) c.args.v 0)) in
+    let to = row_next n p.landmarks i.m l.to _ k.some k.to_size i.to c.in-Some.to.now _ s.0.1.0 (s.0.1.1 ∙ i.to_size) in
+    let from = row_next n p.landmarks i.m l.from _ k.some k.from_size i.from c.in-Some.from.now _ s.1.1.0 (s.1.1.1 ∙ i.from_size) in
+    let here : c.gap.result ≡ f i.m = c.gap.ensures ∙ (λ j. max (get_or (to.is j) c.args.v 0 - get_or (to.is j) c.args.w 0) (get_or (from.is j) c.args.w 0 - get_or (from.is j) c.args.v 0)) in
     let best : c.max-best.result ≡ max c.loop-to.best c.gap.result = search rules in
     record {
       m = i.m + 1;
-      passed = omega arith;
+      passed = omega (arith, to.next);
       to_size = s.0.0 ∙ i.to_size;
-      to = rest_next n p.landmarks i.m l.to _ k.some k.to_size i.to c.in-Some.to.now _ s.0.1.0 (s.0.1.1 ∙ i.to_size);
+      to = to.left;
       from_size = s.1.0 ∙ i.from_size;
-      from = rest_next n p.landmarks i.m l.from _ k.some k.from_size i.from c.in-Some.from.now _ s.1.1.0 (s.1.1.1 ∙ i.from_size);
+      from = from.left;
       best = best ∙ (λ j. max (i.best j) (here j)) ∙ sym (ap (greatest f) (add-one i.m));
     }
 
