@@ -2,7 +2,7 @@
 ghost use Rattle.std.specs.Prelude.{◌≡◌, ◌-◌, ◌==◌, List, length, drop, position};
 ghost use Rattle.format.specs.Commands.{command_of, command_line, CommandRead, behind_feed};
 ghost use Rattle.format.specs.Form.{Token as Spelt};
-ghost use Rattle.format.specs.Places.{TokensAt};
+ghost use Rattle.format.specs.Places.{TokensIn};
 
 use crate::cursor::behind;
 use crate::fault::ReadFault;
@@ -31,7 +31,7 @@ pub struct CommandLine {
 
 // The whole line as a command.
 fn take_command(line: Line) -> Option<Command>
-    ensures { (ts : List Spelt) → TokensAt line.entry.text.now line.entry.from ts → command_of ts ≡ result }
+    ensures { (ts : List Spelt) → TokensIn line.entry ts → command_of ts ≡ result }
 {
     if let Some(numbers) = take_numbers::<2>(line, b"one") {
         let [start, goal] = numbers;

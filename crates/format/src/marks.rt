@@ -2,7 +2,7 @@
 ghost use Rattle.std.specs.Prelude.{◌≡◌, ℕ, ◌+◌, ◌*◌, ◌≤◌, List, ◌++◌, map, length, take, drop};
 ghost use Rattle.format.specs.Form.{Token as Spelt};
 ghost use Rattle.format.specs.Items.{all, table, mark_form};
-ghost use Rattle.format.specs.Places.{TokensAt, ValuesAt};
+ghost use Rattle.format.specs.Places.{TokensFrom, TokensIn, ValuesAt};
 ghost use Rattle.format.specs.Plain.{Mark as Landmark, to_row, from_row};
 ghost use Rattle.plants.specs.Index.{joined};
 ghost use Rattle.format.specs.Reads.{TookTable, MarkTaken, MarkRead, LinesRead, MarksAt, MarksKept};
@@ -34,7 +34,7 @@ pub struct MarkLine<'a> {
 
 // (WORD X…), with so many values; answers where they begin.
 fn take_table<'a>(cursor: &mut Cursor<'a>, word: &[u8], count: u32) -> Option<Cursor<'a>>
-    ensures { (ts : List Spelt) → TokensAt cursor.old.line.text.now cursor.old.at ts → TookTable count cursor.new (table word.now count ts) result }
+    ensures { (ts : List Spelt) → TokensFrom cursor.old ts → TookTable count cursor.new (table word.now count ts) result }
 {
     cursor.open(word)?;
     let values = *cursor;
@@ -45,7 +45,7 @@ fn take_table<'a>(cursor: &mut Cursor<'a>, word: &[u8], count: u32) -> Option<Cu
 
 // The whole line as (mark (to X…) (from X…)).
 fn take_mark<'a>(line: Line<'a>, nodes: u32) -> Option<Mark<'a>>
-    ensures { (ts : List Spelt) → TokensAt line.entry.text.now line.entry.from ts → MarkTaken nodes (all (mark_form nodes ts)) result }
+    ensures { (ts : List Spelt) → TokensIn line.entry ts → MarkTaken nodes (all (mark_form nodes ts)) result }
 {
     let mut cursor = line.start();
     cursor.open(b"mark")?;

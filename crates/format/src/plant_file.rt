@@ -9,7 +9,7 @@ ghost use Rattle.format.specs.Space.{held, after, space_of, Spacious};
 use crate::counts::{Counts, check_room};
 use crate::fault::{ReadFault, with_lanes};
 use crate::lanes::Lanes;
-use crate::lists::{ListsMut, space};
+use crate::lists::ListsMut;
 use crate::marks::{Mark, fill_tables, test_marks};
 use crate::plant_lines::read_lines;
 use crate::token::Line;
@@ -30,7 +30,7 @@ fn copy(list: &[u32], into: &mut [u32])
     requires { length list.now ≤ length into.old }
     ensures { into.new ≡ list.now ++ drop (length list.now) into.old }
 {
-    into[0..list.len()].copy_from_slice(list);
+    into[..list.len()].copy_from_slice(list);
 }
 
 // Writes the index of the lanes into the front of three lists.
@@ -86,7 +86,8 @@ fn settle(nodes: u32, lanes: Lanes, marks: &[Mark], lists: ListsMut) -> Result<(
 pub fn read_plant(text: &[u8], room: Counts, lists: ListsMut) -> Result<PlantFile, ReadFault>
     ensures { ReadAs (room_of room (held lists.entry)) text.now (held lists.entry) (after lists.exit) result }
 {
-    let space = space(&lists);
+    let space = lists.space();
+    // taken apart, so that what each list holds has a name until they are settled
     let ListsMut {
         tails,
         heads,

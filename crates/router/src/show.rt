@@ -64,7 +64,7 @@ pub fn of_call(refusal: Refusal) -> Refused {
 
 pub fn of_reader(fault: ReadFault) -> Refused {
     Refused {
-        refusal: fault.refusal(),
+        refusal: Refusal::from(fault),
         line: fault.added_line(),
     }
 }
