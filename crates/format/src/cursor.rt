@@ -14,7 +14,7 @@ use crate::token::{Line, Token};
 const BEYOND: u32 = 4294967295;
 
 // A place in a line.
-#[derive(Clone, Copy)]
+#[derive(Clone, Copy, Default)]
 pub struct Cursor<'a> {
     pub line: Line<'a>,
     pub at: usize,

@@ -15,11 +15,12 @@ use crate::form::fill_values;
 use crate::lanes::{Lanes, keep};
 use crate::line::checked;
 use crate::token::Line;
+use arrayvec::ArrayVec;
 use plants::check::check_landmark;
 use plants::fault::PlantFault;
 
 // Where the values of a landmark's two tables begin.
-#[derive(Clone, Copy)]
+#[derive(Clone, Copy, Default)]
 pub struct Mark<'a> {
     pub to: Cursor<'a>,
     pub from: Cursor<'a>,
@@ -69,9 +70,9 @@ pub fn read_marks<'a>(
     text: &'a [u8],
     from: usize,
     counts: Counts,
-    marks: &mut [Mark<'a>],
+    marks: &mut ArrayVec<Mark<'a>, 16>,
 ) -> Result<usize, ReadFault>
-    ensures { LinesRead text.now counts.landmarks (λ ms. MarksKept counts.nodes ms marks.new) (forms (mark_form counts.nodes) counts.landmarks (2 + counts.lanes) (drop from text.now)) result }
+    ensures { LinesRead text.now counts.landmarks (λ ms. MarksKept counts.nodes ms marks.old.items marks.new.items) (forms (mark_form counts.nodes) counts.landmarks (2 + counts.lanes) (drop from text.now)) result }
 {
     let mut at = from;
     for m in 0..counts.landmarks as usize {
@@ -81,7 +82,7 @@ pub fn read_marks<'a>(
             from: at,
         };
         let read = mark_line(line, counts.nodes)?;
-        keep(marks, m, read.mark);
+        keep(marks, read.mark);
         at = read.end;
     }
     Ok(at)

@@ -8,11 +8,11 @@ ghost use Rattle.format.specs.Space.{held, after, space_of, Spacious};
 
 use crate::counts::{Counts, check_room};
 use crate::fault::{ReadFault, with_lanes};
-use crate::lanes::Lanes;
+use crate::lanes::{LaneLists, Lanes};
 use crate::lists::ListsMut;
 use crate::marks::{Mark, fill_tables, test_marks};
 use crate::plant_lines::read_lines;
-use crate::token::Line;
+use arrayvec::ArrayVec;
 use plants::check::{check_costs, check_counts, check_ends};
 use plants::fault::PlantFault;
 use plants::index::index;
@@ -98,35 +98,13 @@ pub fn read_plant(text: &[u8], room: Counts, lists: ListsMut) -> Result<PlantFil
         to,
         from,
     } = lists;
-    let mut read_tails = [0u32; 16384];
-    let mut read_heads = [0u32; 16384];
-    let mut read_costs = [0u32; 16384];
-    let start = Line {
-        text,
-        number: 1,
-        from: 0,
-    };
-    let mut marks = [Mark {
-        to: start.start(),
-        from: start.start(),
-    }; 16];
-    let read = read_lines(
-        text,
-        &mut read_tails,
-        &mut read_heads,
-        &mut read_costs,
-        &mut marks,
-    )?;
+    let mut lanes = LaneLists::new();
+    let mut marks = ArrayVec::new();
+    let read = read_lines(text, &mut lanes, &mut marks)?;
     let counts = read.counts;
     let count = counts.lanes as usize;
-    let landmarks = counts.landmarks as usize;
     with_lanes(check_counts(counts.nodes, count, counts.landmarks), count)?;
     check_room(counts, room, space)?;
-    let lanes = Lanes {
-        tails: &read_tails[0..count],
-        heads: &read_heads[0..count],
-        costs: &read_costs[0..count],
-    };
     let into = ListsMut {
         tails,
         heads,
@@ -138,12 +116,12 @@ pub fn read_plant(text: &[u8], room: Counts, lists: ListsMut) -> Result<PlantFil
         from,
     };
     with_lanes(
-        settle(counts.nodes, lanes, &marks[0..landmarks], into),
+        settle(counts.nodes, lanes.lanes(), marks.as_slice(), into),
         count,
     )?;
     Ok(PlantFile {
         counts,
         end: read.end,
-        lines: 1 + count + landmarks,
+        lines: 1 + count + counts.landmarks as usize,
     })
 }

@@ -1,11 +1,11 @@
 use Rattle.std.proofs.Common.{◌≡◌, ℕ, ◌≤◌, true, List, length, drop, replicate, sym, refl, ap, ◌∙◌, arith}
-use lib.ListN.{length-replicate}
 use Rattle.std.proofs.lemmas.Result.{err_from_is_err_and}
 use Rattle.plants.specs.Faults.{counts_fit}
 use Rattle.format.specs.Plain.{Lane}
 use Rattle.format.specs.Reader.{room_of, Roomy}
 use Rattle.format.specs.Space.{held, room_for}
-use Rattle.format.proofs.Answered.{counts_refused, counts_kept, sized_counts, sized_room, refuses_line, placed_fault, placed_none, refuses_counts, refuses_short, refuses_found, few_lanes, few_marks, kept_marks, kept_column, written_for, tables_for}
+use Rattle.format.proofs.Kept.{marks_length}
+use Rattle.format.proofs.Answered.{spacious_for, column_long, few_nodes, counts_refused, counts_kept, sized_counts, sized_room, refuses_line, placed_fault, placed_none, refuses_counts, refuses_short, refuses_found, few_lanes, few_marks, kept_marks, kept_column, written_for, tables_for}
 use Rattle.format.proofs.plant_file.read_plant.Goals as goal
 
 pub returns-in_err-read : goal.returns-in_err-read
@@ -65,19 +65,37 @@ returns c =
     let w = rw q at c.settle.ensures in
     let few = few_lanes counts.nodes counts.lanes counts.landmarks fit in
     let some = few_marks counts.nodes counts.lanes counts.landmarks fit in
-    let sixteen : length c.read_lines.new.marks ≡ 16 = c.read_lines.auto.marks in
-    let room : counts.landmarks ≤ length c.read_lines.new.marks = omega arith in
-    let zeros : List ℕ = replicate 16384 0 in
-    let long : counts.lanes ≤ length zeros = simp length-replicate few in
+    let empty = c.new-lanes.ensures in
     record {
       plant = p;
       roomy = roomy;
       sized = k.2;
       lines_are = refl;
       written =
-          written_for counts.nodes p.nodes _ _ _ _ _ _ _ _ (sym k.2.nodes) (kept_column (λ (l : Lane). l.tail) p.lanes zeros _ counts.lanes k.2.lanes long k.3.tails_kept)
-          (kept_column (λ (l : Lane). l.head) p.lanes zeros _ counts.lanes k.2.lanes long k.3.heads_kept) (kept_column (λ (l : Lane). l.cost) p.lanes zeros _ counts.lanes k.2.lanes long k.3.costs_kept) w.0;
+          written_for counts.nodes p.nodes _ _ _ _ _ _ _ _ (sym k.2.nodes)
+          (c.lanes.ensures.0 ∙ kept_column (λ (l : Lane). l.tail) p.lanes _ _ counts.lanes empty.0 k.2.lanes few k.3.tails_kept)
+          (c.lanes.ensures.1 ∙ kept_column (λ (l : Lane). l.head) p.lanes _ _ counts.lanes empty.1 k.2.lanes few k.3.heads_kept)
+          (c.lanes.ensures.2 ∙ kept_column (λ (l : Lane). l.cost) p.lanes _ _ counts.lanes empty.2 k.2.lanes few k.3.costs_kept) w.0;
       tables =
           tables_for counts.nodes p.nodes p.marks _ _ (sym k.2.nodes)
-          (w.1 p.marks (kept_marks p.nodes counts.nodes counts.landmarks p.marks _ k.2.nodes k.2.marks room k.4));
+          (w.1 p.marks (rw c.as_slice.ensures.value (kept_marks p.nodes counts.nodes counts.landmarks p.marks _ _ k.2.nodes c.new-marks.ensures k.2.marks some k.4)));
     }
+
+pub settle-requires : goal.settle-requires
+settle-requires c =
+    let k = c.in_ok-read.ensures in
+    let p = k.0 in
+    let counts = c.in_ok-read.read.counts in
+    let ok = placed_none counts.lanes c.check_counts.result _ c.in_ok-with_lanes.ensures in
+    let fit : counts_fit counts.nodes counts.lanes counts.landmarks ≡ true = counts_kept _ (rw ok at c.check_counts.ensures) in
+    let few = few_lanes counts.nodes counts.lanes counts.landmarks fit in
+    let some = few_marks counts.nodes counts.lanes counts.landmarks fit in
+    let empty = c.new-lanes.ensures in
+    let marks = kept_marks p.nodes counts.nodes counts.landmarks p.marks _ _ k.2.nodes c.new-marks.ensures k.2.marks some k.4 in (
+      few_nodes counts.nodes counts.lanes counts.landmarks fit,
+      spacious_for counts c.args.room c.space-space.result _ _ _ _ _ c.in_ok-check_room.ensures c.space-space.ensures
+          (ap length c.as_slice.ensures.value ∙ (sym (marks_length counts.nodes p.marks _ marks) ∙ k.2.marks))
+          (column_long _ _ p.lanes counts.lanes k.2.lanes (c.lanes.ensures.0 ∙ kept_column (λ (l : Lane). l.tail) p.lanes _ _ counts.lanes empty.0 k.2.lanes few k.3.tails_kept))
+          (column_long _ _ p.lanes counts.lanes k.2.lanes (c.lanes.ensures.1 ∙ kept_column (λ (l : Lane). l.head) p.lanes _ _ counts.lanes empty.1 k.2.lanes few k.3.heads_kept))
+          (column_long _ _ p.lanes counts.lanes k.2.lanes (c.lanes.ensures.2 ∙ kept_column (λ (l : Lane). l.cost) p.lanes _ _ counts.lanes empty.2 k.2.lanes few k.3.costs_kept)),
+    )
