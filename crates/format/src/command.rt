@@ -9,44 +9,33 @@ use crate::fault::ReadFault;
 use crate::form::take_numbers;
 use crate::line::checked;
 use crate::token::Line;
-
-// What a line asks for.
-#[derive(Clone, Copy, PartialEq, Eq, Debug)]
-pub enum Command {
-    // a least route, looked for from its start
-    One { start: u32, goal: u32 },
-    // a least route, looked for from both ends
-    Two { start: u32, goal: u32 },
-    // a lane is closed, or opened again
-    Close { lane: u32 },
-    Reopen { lane: u32 },
-}
+use search::call::Call;
 
 // A command, and where the next line begins.
 #[derive(Clone, Copy, PartialEq, Eq, Debug)]
 pub struct CommandLine {
-    pub command: Command,
+    pub command: Call,
     pub end: usize,
 }
 
 // The whole line as a command.
-fn take_command(line: Line) -> Option<Command>
+fn take_command(line: Line) -> Option<Call>
     ensures { (ts : List Spelt) → TokensIn line.entry ts → command_of ts ≡ result }
 {
     if let Some(numbers) = take_numbers::<2>(line, b"one") {
         let [start, goal] = numbers;
-        return Some(Command::One { start, goal });
+        return Some(Call::One { start, goal });
     }
     if let Some(numbers) = take_numbers::<2>(line, b"two") {
         let [start, goal] = numbers;
-        return Some(Command::Two { start, goal });
+        return Some(Call::Two { start, goal });
     }
     if let Some(numbers) = take_numbers::<1>(line, b"close") {
         let [lane] = numbers;
-        return Some(Command::Close { lane });
+        return Some(Call::Close(lane));
     }
     let [lane] = take_numbers::<1>(line, b"reopen")?;
-    Some(Command::Reopen { lane })
+    Some(Call::Reopen(lane))
 }
 
 // The command on the line that begins at a byte.

@@ -3,7 +3,7 @@ use crate::areas::{MOST, PlantRoom, plant_room, reply_room, search_room};
 use crate::input::MOST_BYTES;
 use crate::show::{Told, of_call, of_reader};
 use cost::length::Length;
-use format::command::{Command, line_feed_after, read_command};
+use format::command::{line_feed_after, read_command};
 use format::fault::ReadFault;
 use format::lists::ListsMut;
 use format::plant_file::{PlantFile, read_plant};
@@ -88,15 +88,6 @@ pub enum LineRead {
     Fault(ReadFault),
 }
 
-fn call_of(command: Command) -> Call {
-    match command {
-        Command::One { start, goal } => Call::One { start, goal },
-        Command::Two { start, goal } => Call::Two { start, goal },
-        Command::Close { lane } => Call::Close(lane),
-        Command::Reopen { lane } => Call::Reopen(lane),
-    }
-}
-
 // Reads each line behind the plant file.
 fn read_lines(
     text: &[u8],
@@ -109,7 +100,7 @@ fn read_lines(
     while at < text.len() {
         match read_command(text, at, line) {
             Ok(read) => {
-                calls.push(call_of(read.command))?;
+                calls.push(read.command)?;
                 lines.push(LineRead::Call)?;
             }
             Err(fault) => lines.push(LineRead::Fault(fault))?,
