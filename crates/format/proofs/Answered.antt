@@ -1,5 +1,5 @@
 -- What the reader refuses before it tests lanes and tables.
-use Rattle.std.proofs.Common.{◌≡◌, ℕ, ◌*◌, ◌≤◌, Bool, true, false, cond, leb, nat_lt, List, [], ◌++◌, map, length, Some, None, Ok, Err, Option, Result, sym, refl, ap, ◌∙◌, subst, subst₂, inl, inr, arith}
+use Rattle.std.proofs.Common.{◌≡◌, ℕ, ◌*◌, ◌≤◌, Bool, true, false, cond, leb, nat_lt, List, [], ◌++◌, map, length, drop, Some, None, Ok, Err, Option, Result, sym, refl, ap, ◌∙◌, subst, subst₂, inl, inr, arith}
 use Rattle.std.proofs.lemmas.List.{length-map}
 use Rattle.std.proofs.lemmas.Bool.{and_parts, leb-true, ltb-true}
 use Rattle.plants.specs.Columns.{Columns}
@@ -9,6 +9,8 @@ use Rattle.plants.specs.declared.fault.PlantFault.TheVariants.{Counts as OfCount
 use Rattle.format.specs.declared.counts.Counts.{Counts}
 use Rattle.format.specs.declared.counts.Space.{Space}
 use Rattle.format.specs.declared.marks.Mark.{Mark as MarkPlace}
+use Rattle.format.specs.declared.lanes.LaneLists.{LaneLists}
+use Rattle.format.specs.declared.plant_lines.PlantLines.{PlantLines}
 use Rattle.format.specs.declared.fault.Placed.{Placed}
 use Rattle.format.specs.declared.fault.ReadFault.{ReadFault}
 use Rattle.format.specs.declared.fault.ReadFault.TheVariants.{NoForm, Form, Number, Short, Plant}
@@ -16,7 +18,7 @@ use Rattle.format.specs.Plain.{Lane, Mark, Plain}
 use Rattle.format.specs.Checks.{Room, has_room, has_counts, tested}
 use Rattle.format.specs.Faults.{line_of, told, with_lanes, read_fault}
 use Rattle.format.specs.Read.{read}
-use Rattle.format.specs.Reader.{room_of, Roomy, RefusesPlant, Refuses, Written, TablesWritten}
+use Rattle.format.specs.Reader.{room_of, Tested, Roomy, RefusesPlant, Refuses, Written, TablesWritten}
 use Rattle.format.specs.Reads.{Sized, Pushed, MarksAt, MarksKept}
 use Rattle.format.specs.Space.{room_for, space_of, Spacious}
 use Rattle.format.specs.Turns.{Fault, got, lost, lines}
@@ -108,6 +110,14 @@ few_marks nodes lanes landmarks e =
     let b = and_parts (leb nodes 4096) _ a.1 in
     let c = and_parts (leb lanes 16384) _ b.1 in
     leb-true landmarks 16 c.1
+
+-- a plant that was tested is one for which there is room
+pub roomy_for : (limits : Counts) (lists : Columns) (s : Space) (t : List ℕ) (lanes lanes' : LaneLists) (marks marks' : List MarkPlace) (l : PlantLines) (k : Tested limits s t lanes lanes' marks marks' l) → s ≡ space_of lists → Roomy (room_of limits lists) t (drop l.end t) k.plant
+roomy_for limits lists s t lanes lanes' marks marks' l k q = record {
+  read_as = k.read_as;
+  counted = sized_counts k.plant l.counts k.sized ∙ k.fit;
+  has = sized_room k.plant l.counts limits lists k.sized ∙ (ap (λ s. room_for l.counts limits s) (sym q) ∙ k.room);
+}
 
 pub few_nodes : (nodes lanes landmarks : ℕ) → counts_fit nodes lanes landmarks ≡ true → nodes ≤ 4096
 few_nodes nodes lanes landmarks e =

@@ -1,17 +1,17 @@
 // Reading a plant file into the caller's lists.
 ghost use Rattle.std.specs.Prelude.{◌≡◌, ◌+◌, ◌≤◌, List, ◌++◌, length, drop, MatchResult};
 ghost use Rattle.plants.specs.Index.{firsts, grouped};
-ghost use Rattle.format.specs.Reader.{Written, TablesWritten, ReadAs, room_of};
+ghost use Rattle.format.specs.Reader.{Written, TablesWritten, ReadTested, ReadAs, room_of};
 ghost use Rattle.format.specs.Plain.{Mark as Landmark};
 ghost use Rattle.format.specs.Reads.{MarksAt};
 ghost use Rattle.format.specs.Space.{held, after, space_of, Spacious};
 
-use crate::counts::{Counts, check_room};
+use crate::counts::{Counts, Space, check_room};
 use crate::fault::{ReadFault, with_lanes};
 use crate::lanes::{LaneLists, Lanes};
 use crate::lists::ListsMut;
 use crate::marks::{Mark, fill_tables, test_marks};
-use crate::plant_lines::read_lines;
+use crate::plant_lines::{PlantLines, read_lines};
 use arrayvec::ArrayVec;
 use plants::check::{check_costs, check_counts, check_ends};
 use plants::fault::PlantFault;
@@ -82,6 +82,24 @@ fn settle(nodes: u32, lanes: Lanes, marks: &[Mark], lists: ListsMut) -> Result<(
     Ok(())
 }
 
+// Reads the lines of a plant file, and tests that the counts are lawful and that there is room.
+fn read_tested<'a>(
+    text: &'a [u8],
+    room: Counts,
+    space: Space,
+    lanes: &mut LaneLists,
+    marks: &mut ArrayVec<Mark<'a>, 16>,
+) -> Result<PlantLines, ReadFault>
+    ensures { ReadTested room space text.now lanes.old lanes.new marks.old.items marks.new.items result }
+{
+    let read = read_lines(text, lanes, marks)?;
+    let counts = read.counts;
+    let count = counts.lanes as usize;
+    with_lanes(check_counts(counts.nodes, count, counts.landmarks), count)?;
+    check_room(counts, room, space)?;
+    Ok(read)
+}
+
 // Reads a plant file from the text's beginning. Its lines are tested in turn, then the plant as a whole; the lists are written only if no test fails.
 pub fn read_plant(text: &[u8], room: Counts, lists: ListsMut) -> Result<PlantFile, ReadFault>
     ensures { ReadAs (room_of room (held lists.entry)) text.now (held lists.entry) (after lists.exit) result }
@@ -100,11 +118,8 @@ pub fn read_plant(text: &[u8], room: Counts, lists: ListsMut) -> Result<PlantFil
     } = lists;
     let mut lanes = LaneLists::new();
     let mut marks = ArrayVec::new();
-    let read = read_lines(text, &mut lanes, &mut marks)?;
-    let counts = read.counts;
+    let PlantLines { counts, end } = read_tested(text, room, space, &mut lanes, &mut marks)?;
     let count = counts.lanes as usize;
-    with_lanes(check_counts(counts.nodes, count, counts.landmarks), count)?;
-    check_room(counts, room, space)?;
     let into = ListsMut {
         tails,
         heads,
@@ -121,7 +136,7 @@ pub fn read_plant(text: &[u8], room: Counts, lists: ListsMut) -> Result<PlantFil
     )?;
     Ok(PlantFile {
         counts,
-        end: read.end,
+        end,
         lines: 1 + count + counts.landmarks as usize,
     })
 }
