@@ -1,10 +1,9 @@
 -- What the code reads of each kind of line.
 use Rattle.std.specs.Prelude.{◌≡◌, ℕ, ◌+◌, ◌<◌, ◌≤◌, List, [], ◌∷◌, ◌++◌, map, length, drop, Some, None, Ok, Err, Option, Result, slice_index}
 use Rattle.format.specs.declared.fault.ReadFault.{ReadFault}
-use Rattle.format.specs.declared.lanes.NumbersLine.{NumbersLine}
 use Rattle.format.specs.declared.lanes.LaneLists.{LaneLists}
 use Rattle.format.specs.declared.marks.Mark.{Mark as MarkPlace}
-use Rattle.format.specs.declared.marks.MarkLine.{MarkLine}
+use Rattle.format.specs.declared.line.Whole.{Whole}
 use Rattle.format.specs.declared.cursor.Cursor.{Cursor}
 use Rattle.format.specs.declared.counts.Counts.{Counts}
 use Rattle.format.specs.declared.plant_lines.PlantLines.{PlantLines}
@@ -19,8 +18,8 @@ abbrev pub triple_of : List ℕ → ℕ × ℕ × ℕ
 triple_of xs = (slice_index xs 0, slice_index xs 1, slice_index xs 2)
 
 -- a line of three numbers
-abbrev pub NumbersRead : List ℕ → Got (ℕ × ℕ × ℕ) → Result NumbersLine ReadFault → Type 0
-NumbersRead src g (Ok l) = g ≡ got (triple_of l.numbers) (drop l.end src)
+abbrev pub NumbersRead : List ℕ → Got (ℕ × ℕ × ℕ) → Result (Whole (List ℕ)) ReadFault → Type 0
+NumbersRead src g (Ok l) = g ≡ got (triple_of l.form) (drop l.end src)
 NumbersRead src g (Err f) = g ≡ lost (told f)
 
 -- the n values of a table stand from a place on
@@ -42,8 +41,8 @@ MarkTaken n (Some m) None = ⊥
 MarkTaken n (Some m) (Some x) = MarkAt n m x
 
 -- a landmark's line
-abbrev pub MarkRead : ℕ → List ℕ → Got Mark → Result MarkLine ReadFault → Type 0
-MarkRead n src g (Ok l) = (m : Mark) × (g ≡ got m (drop l.end src)) × MarkAt n m l.mark
+abbrev pub MarkRead : ℕ → List ℕ → Got Mark → Result (Whole MarkPlace) ReadFault → Type 0
+MarkRead n src g (Ok l) = (m : Mark) × (g ≡ got m (drop l.end src)) × MarkAt n m l.form
 MarkRead n src g (Err f) = g ≡ lost (told f)
 
 -- a list to which some items were added, if it had room for all

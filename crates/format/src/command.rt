@@ -7,7 +7,7 @@ ghost use Rattle.format.specs.Places.{TokensIn};
 use crate::cursor::behind;
 use crate::fault::ReadFault;
 use crate::form::take_numbers;
-use crate::line::checked;
+use crate::line::{Whole, read_whole};
 use crate::token::Line;
 use search::call::Call;
 
@@ -47,9 +47,8 @@ pub fn read_command(text: &[u8], from: usize, line: usize) -> Result<CommandLine
         number: line,
         from,
     };
-    let end = checked(here)?;
-    let command = take_command(here).ok_or(ReadFault::Form { line })?;
-    Ok(CommandLine { command, end })
+    let Whole { form, end } = read_whole(here, take_command)?;
+    Ok(CommandLine { command: form, end })
 }
 
 // Where the first line feed is.

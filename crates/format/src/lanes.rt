@@ -6,16 +6,9 @@ ghost use Rattle.format.specs.Reads.{NumbersRead, LinesRead, LanesKept, LanePush
 
 use crate::fault::ReadFault;
 use crate::form::take_numbers;
-use crate::line::checked;
+use crate::line::{Whole, read_whole};
 use crate::token::Line;
 use arrayvec::ArrayVec;
-
-// A line of three numbers, and where the next line begins.
-#[derive(Clone, Copy)]
-pub struct NumbersLine {
-    pub numbers: [u32; 3],
-    pub end: usize,
-}
 
 // The lanes that are read, by column, as many as there is room for.
 #[derive(Drop)]
@@ -34,12 +27,10 @@ pub struct Lanes<'a> {
 }
 
 // A whole line (WORD A B C).
-pub fn numbers_line(line: Line, word: &[u8]) -> Result<NumbersLine, ReadFault>
+pub fn numbers_line(line: Line, word: &[u8]) -> Result<Whole<[u32; 3]>, ReadFault>
     ensures { NumbersRead line.entry.text.now (form (triple word.now) line.entry.number (drop line.entry.from line.entry.text.now)) result }
 {
-    let end = checked(line)?;
-    let numbers = take_numbers(line, word).ok_or(ReadFault::Form { line: line.number })?;
-    Ok(NumbersLine { numbers, end })
+    read_whole(line, |line| take_numbers(line, word))
 }
 
 // Adds an item if the list has room for it.
@@ -102,7 +93,7 @@ pub fn read_lanes(
             from: at,
         };
         let lane = numbers_line(line, b"lane")?;
-        lanes.push(lane.numbers);
+        lanes.push(lane.form);
         at = lane.end;
     }
     Ok(at)

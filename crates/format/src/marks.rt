@@ -13,7 +13,7 @@ use crate::cursor::Cursor;
 use crate::fault::ReadFault;
 use crate::form::fill_values;
 use crate::lanes::{Lanes, keep};
-use crate::line::checked;
+use crate::line::{Whole, read_whole};
 use crate::token::Line;
 use arrayvec::ArrayVec;
 use plants::check::check_landmark;
@@ -24,13 +24,6 @@ use plants::fault::PlantFault;
 pub struct Mark<'a> {
     pub to: Cursor<'a>,
     pub from: Cursor<'a>,
-}
-
-// A mark line, and where the next line begins.
-#[derive(Clone, Copy)]
-pub struct MarkLine<'a> {
-    pub mark: Mark<'a>,
-    pub end: usize,
 }
 
 // (WORD X…), with so many values; answers where they begin.
@@ -57,12 +50,10 @@ fn take_mark<'a>(line: Line<'a>, nodes: u32) -> Option<Mark<'a>>
 }
 
 // A whole line (mark (to X…) (from X…)).
-fn mark_line<'a>(line: Line<'a>, nodes: u32) -> Result<MarkLine<'a>, ReadFault>
+fn mark_line<'a>(line: Line<'a>, nodes: u32) -> Result<Whole<Mark<'a>>, ReadFault>
     ensures { MarkRead nodes line.entry.text.now (form (mark_form nodes) line.entry.number (drop line.entry.from line.entry.text.now)) result }
 {
-    let end = checked(line)?;
-    let mark = take_mark(line, nodes).ok_or(ReadFault::Form { line: line.number })?;
-    Ok(MarkLine { mark, end })
+    read_whole(line, |line| take_mark(line, nodes))
 }
 
 // Reads all mark lines, and keeps those that the list has room for; answers where the last one ends.
@@ -82,7 +73,7 @@ pub fn read_marks<'a>(
             from: at,
         };
         let read = mark_line(line, counts.nodes)?;
-        keep(marks, read.mark);
+        keep(marks, read.form);
         at = read.end;
     }
     Ok(at)

@@ -29,7 +29,7 @@ pub fn read_lines<'a>(
         from: 0,
     };
     let first = numbers_line(start, b"plant")?;
-    let [nodes, count, landmarks] = first.numbers;
+    let [nodes, count, landmarks] = first.form;
     let counts = Counts {
         nodes,
         lanes: count,

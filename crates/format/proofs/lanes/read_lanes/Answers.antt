@@ -25,7 +25,7 @@ unfolding lane_form
 loop-k-preserved c =
     let r = c.loop-k.invariant.0 in
     let k = c.loop-k.invariant.1 in
-    let n = c.in_ok-lane.lane.numbers in
+    let n = c.in_ok-lane.lane.form in
     let a : Lane = record { tail = slice_index n 0; head = slice_index n 1; cost = slice_index n 2 } in (
       record {
         xs = r.xs ++ (a ∷ []);

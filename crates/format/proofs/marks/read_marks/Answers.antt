@@ -26,7 +26,7 @@ loop-m-preserved c =
             read_more (mark_form c.args.counts.nodes) c.args.text.now c.args.from c.loop-m.at c.in_ok-read.read.end c.args.counts.landmarks (2 + c.args.counts.lanes) c.loop-m.m m r
             c.loop-m-test.true k.1;
       },
-      marks_more c.args.counts.nodes r.xs m c.in_ok-read.read.mark c.args.marks.now.items c.loop-m.marks.items c.keep.new.list.items k.2 c.loop-m.invariant.1 c.keep.ensures,
+      marks_more c.args.counts.nodes r.xs m c.in_ok-read.read.form c.args.marks.now.items c.loop-m.marks.items c.keep.new.list.items k.2 c.loop-m.invariant.1 c.keep.ensures,
     )
 
 pub returns : goal.returns
