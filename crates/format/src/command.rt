@@ -11,7 +11,7 @@ use crate::line::{Whole, read_whole};
 use crate::token::Line;
 use search::call::Call;
 
-// A command, and where the next line begins.
+// A command, and where the next line begins: a `Whole` under the names that callers have.
 #[derive(Clone, Copy, PartialEq, Eq, Debug)]
 pub struct CommandLine {
     pub command: Call,

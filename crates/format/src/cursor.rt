@@ -13,7 +13,7 @@ use crate::token::{Line, Token};
 // The length that no route has, written as a hyphen.
 const BEYOND: u32 = 4294967295;
 
-// A place in a line.
+// A place in a line. The tokens from there on are a premise of the clauses, and no ghost field, since lines are walked before they are tested.
 #[derive(Clone, Copy, Default)]
 pub struct Cursor<'a> {
     pub line: Line<'a>,

@@ -18,7 +18,7 @@ pub struct LaneLists {
     pub costs: ArrayVec<u32, 16384>,
 }
 
-// The lanes of a plant, by column.
+// The lanes of a plant, by column, as the tests of a plant and its index take them.
 #[derive(Clone, Copy)]
 pub struct Lanes<'a> {
     pub tails: &'a [u32],

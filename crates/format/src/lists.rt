@@ -1,4 +1,4 @@
-// The lists that a plant is read into; they belong to the caller.
+// The lists that a plant is read into; they belong to the caller, and are slices since the reader takes no memory.
 ghost use Rattle.std.specs.Prelude.{◌≡◌};
 ghost use Rattle.format.specs.Space.{held, space_of};
 

@@ -56,7 +56,7 @@ fn mark_line<'a>(line: Line<'a>, nodes: u32) -> Result<Whole<Mark<'a>>, ReadFaul
     read_whole(line, |line| take_mark(line, nodes))
 }
 
-// Reads all mark lines, and keeps those that the list has room for; answers where the last one ends.
+// Reads all mark lines, and keeps those that the list has room for; answers where the last one ends. (`read_lanes` is a loop of its own: one over a closure that fills either list would have clauses longer than both.)
 pub fn read_marks<'a>(
     text: &'a [u8],
     from: usize,
