@@ -1,13 +1,16 @@
 -- What the reader refuses before it tests lanes and tables.
-use Rattle.std.proofs.Common.{◌≡◌, ℕ, ◌-◌, ◌≤◌, Bool, true, false, cond, leb, List, map, length, take, drop, Some, None, Ok, Err, Option, Result, sym, refl, ap, ◌∙◌, subst, inl, inr, arith}
-use Rattle.std.proofs.lemmas.List.{length-map, take_at}
-use Rattle.std.proofs.lemmas.Bool.{and_parts, leb-true}
+use Rattle.std.proofs.Common.{◌≡◌, ℕ, ◌*◌, ◌≤◌, Bool, true, false, cond, leb, nat_lt, List, [], ◌++◌, map, length, drop, Some, None, Ok, Err, Option, Result, sym, refl, ap, ◌∙◌, subst, subst₂, inl, inr, arith}
+use Rattle.std.proofs.lemmas.List.{length-map}
+use Rattle.std.proofs.lemmas.Bool.{and_parts, leb-true, ltb-true}
 use Rattle.plants.specs.Columns.{Columns}
 use Rattle.plants.specs.Faults.{counts_fit}
 use Rattle.plants.specs.declared.fault.PlantFault.{PlantFault}
 use Rattle.plants.specs.declared.fault.PlantFault.TheVariants.{Counts as OfCounts}
 use Rattle.format.specs.declared.counts.Counts.{Counts}
+use Rattle.format.specs.declared.counts.Space.{Space}
 use Rattle.format.specs.declared.marks.Mark.{Mark as MarkPlace}
+use Rattle.format.specs.declared.lanes.LaneLists.{LaneLists}
+use Rattle.format.specs.declared.plant_lines.PlantLines.{PlantLines}
 use Rattle.format.specs.declared.fault.Placed.{Placed}
 use Rattle.format.specs.declared.fault.ReadFault.{ReadFault}
 use Rattle.format.specs.declared.fault.ReadFault.TheVariants.{NoForm, Form, Number, Short, Plant}
@@ -15,9 +18,9 @@ use Rattle.format.specs.Plain.{Lane, Mark, Plain}
 use Rattle.format.specs.Checks.{Room, has_room, has_counts, tested}
 use Rattle.format.specs.Faults.{line_of, told, with_lanes, read_fault}
 use Rattle.format.specs.Read.{read}
-use Rattle.format.specs.Reader.{room_of, Roomy, RefusesPlant, Refuses, Written, TablesWritten}
-use Rattle.format.specs.Reads.{Sized, Begins, MarksAt, MarksKept}
-use Rattle.format.specs.Space.{room_for, space_of}
+use Rattle.format.specs.Reader.{room_of, Tested, Roomy, RefusesPlant, Refuses, Written, TablesWritten}
+use Rattle.format.specs.Reads.{Sized, Pushed, MarksAt, MarksKept}
+use Rattle.format.specs.Space.{room_for, space_of, Spacious}
 use Rattle.format.specs.Turns.{Fault, got, lost, lines}
 
 -- a line's fault is the reader's
@@ -108,20 +111,50 @@ few_marks nodes lanes landmarks e =
     let c = and_parts (leb lanes 16384) _ b.1 in
     leb-true landmarks 16 c.1
 
-pub kept_marks : (n n' k : ℕ) (ms : List Mark) (xs : List MarkPlace) → n ≡ n' → length ms ≡ k → k ≤ length xs → MarksKept n ms xs → MarksAt n' ms (take (k - 0) (drop 0 xs))
-kept_marks n n' k ms xs e l h m =
-    let d : length ms ≡ k - 0 = omega arith in
-    let a = m (omega arith) in
-    let b = subst (λ i. MarksAt n ms (take i xs)) d a in
-    subst (λ i. MarksAt i ms (take (k - 0) xs)) e b
+-- a plant that was tested is one for which there is room
+pub roomy_for : (limits : Counts) (lists : Columns) (s : Space) (t : List ℕ) (lanes lanes' : LaneLists) (marks marks' : List MarkPlace) (l : PlantLines) (k : Tested limits s t lanes lanes' marks marks' l) → s ≡ space_of lists → Roomy (room_of limits lists) t (drop l.end t) k.plant
+roomy_for limits lists s t lanes lanes' marks marks' l k q = record {
+  read_as = k.read_as;
+  counted = sized_counts k.plant l.counts k.sized ∙ k.fit;
+  has = sized_room k.plant l.counts limits lists k.sized ∙ (ap (λ s. room_for l.counts limits s) (sym q) ∙ k.room);
+}
 
-pub kept_column : (f : Lane → ℕ) (ls : List Lane) (before after : List ℕ) (n : ℕ) → length ls ≡ n → n ≤ length before → Begins (map f ls) before after → take (n - 0) (drop 0 after) ≡ map f ls
-kept_column f ls before after n e h b =
+pub few_nodes : (nodes lanes landmarks : ℕ) → counts_fit nodes lanes landmarks ≡ true → nodes ≤ 4096
+few_nodes nodes lanes landmarks e =
+    let a = and_parts (leb 1 nodes) _ e in
+    let b = and_parts (leb nodes 4096) _ a.1 in
+    leb-true nodes 4096 b.0
+
+-- lists that were empty before the lines were read
+
+pub kept_marks : (n n' k : ℕ) (ms : List Mark) (before after : List MarkPlace) → n ≡ n' → before ≡ [] → length ms ≡ k → k ≤ 16 → MarksKept n ms before after → MarksAt n' ms after
+kept_marks n n' k ms before after e b l h m =
+    let z = ap length b in
+    let a = m (omega arith) in
+    let same : after ≡ a.0 = a.1 ∙ ap (λ zs. zs ++ a.0) b in
+    subst₂ (λ i xs. MarksAt i ms xs) e (sym same) a.2
+
+pub kept_column : (f : Lane → ℕ) (ls : List Lane) (before after : List ℕ) (n : ℕ) → before ≡ [] → length ls ≡ n → n ≤ 16384 → Pushed 16384 (map f ls) before after → after ≡ map f ls
+kept_column f ls before after n b e h p =
     let l = length-map ls f in
-    let m : length (map f ls) ≡ n = omega arith in
-    let d : n - 0 ≡ n = omega arith in
-    let w = b (omega arith) in
-    ap (λ k. take k after) d ∙ (ap (take n) w ∙ take_at (map f ls) (drop (length (map f ls)) before) n m)
+    let z = ap length b in
+    p (omega arith) ∙ ap (λ zs. zs ++ map f ls) b
+
+pub column_long : (xs : List ℕ) (f : Lane → ℕ) (ls : List Lane) (n : ℕ) → length ls ≡ n → xs ≡ map f ls → length xs ≡ n
+column_long xs f ls n e q = ap length q ∙ (length-map ls f ∙ e)
+
+-- there is room for what was read
+pub spacious_for : (c limits : Counts) (s s' : Space) (m : ℕ) (ts hs cs : List ℕ) → room_for c limits s ≡ true → s ≡ s' → m ≡ c.landmarks → length ts ≡ c.lanes → length hs ≡ c.lanes → length cs ≡ c.lanes → Spacious c.nodes m ts hs cs s'
+spacious_for c limits s s' m ts hs cs e q k a b d =
+    let r = and_parts (leb c.nodes limits.nodes) _ e in
+    let t = and_parts (leb c.lanes limits.lanes) _ r.1 in
+    let u = and_parts (leb c.landmarks limits.landmarks) _ t.1 in
+    let v = and_parts (leb c.lanes s.lanes) _ u.1 in
+    let w = and_parts (nat_lt c.nodes s.firsts) _ v.1 in
+    let lanes = leb-true c.lanes s.lanes v.0 in
+    let firsts = ltb-true c.nodes s.firsts w.0 in
+    let tables : m * c.nodes ≤ s.tables = subst (λ x. x * c.nodes ≤ s.tables) (sym k) (leb-true (c.landmarks * c.nodes) s.tables w.1) in
+    subst (Spacious c.nodes m ts hs cs) q (record { for_tails = omega arith; for_heads = omega arith; for_costs = omega arith; for_firsts = omega arith; for_tables = tables })
 
 pub written_for : (n n' : ℕ) (ts ts' hs hs' cs cs' : List ℕ) (before after : Columns) → n ≡ n' → ts ≡ ts' → hs ≡ hs' → cs ≡ cs' → Written n ts hs cs before after → Written n' ts' hs' cs' before after
 written_for n n' ts ts' hs hs' cs cs' before after e t h c w =

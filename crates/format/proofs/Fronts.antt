@@ -1,7 +1,7 @@
 -- A list of which the front was lent to a call.
 use Rattle.std.proofs.Common.{◌≡◌, ℕ, ◌-◌, ◌≤◌, List, ◌++◌, length, take, drop, ap, ◌∙◌, arith}
 use borrow.Rule.Slice.PartMut.{post_of}
-use Rattle.std.proofs.lemmas.List.{take-append-drop, drop_at, length-take-le}
+use Rattle.std.proofs.lemmas.List.{take-append-drop, length-take-le}
 
 -- what lies behind the front
 pub behind : (n : ℕ) (xs : List ℕ) → post_of 0 (n - 0) xs ≡ drop n xs
@@ -18,6 +18,3 @@ put_back n xs ys e = ap (λ zs. ys ++ zs) (behind n xs) ∙ (ap (λ zs. zs ++ dr
 -- the call wrote a front of the same length
 pub put_front : (n : ℕ) (xs ys : List ℕ) → n ≤ length xs → length ys ≡ length (take (n - 0) (drop 0 xs)) → (ys ++ post_of 0 (n - 0) xs ≡ ys ++ drop n xs) × (length ys ≡ n)
 put_front n xs ys h e = (ap (λ zs. ys ++ zs) (behind n xs), e ∙ (ap length (front_is n xs) ∙ length-take-le n xs h))
-
-pub put_behind : (n : ℕ) (xs ys : List ℕ) → n ≤ length xs → length ys ≡ length (take (n - 0) (drop 0 xs)) → drop n (ys ++ post_of 0 (n - 0) xs) ≡ drop n xs
-put_behind n xs ys h e = let p = put_front n xs ys h e in ap (drop n) p.0 ∙ drop_at ys (drop n xs) n p.1

@@ -1,12 +1,13 @@
 -- Lines that are read one after another, and what is kept of them.
-use Rattle.std.proofs.Common.{◌≡◌, ℕ, suc, ◌+◌, ◌-◌, ◌<◌, ◌≤◌, List, [], ◌∷◌, ◌++◌, map, length, take, drop, set, sym, refl, ap, ◌∙◌, subst, append_assoc, arith, length-append}
-use Rattle.std.proofs.lemmas.List.{append-nil, map-append, length-map, drop_more, set_at, take_more_set}
+use Rattle.std.proofs.Common.{◌≡◌, ℕ, suc, ◌+◌, ◌-◌, ◌<◌, ◌≤◌, List, [], ◌∷◌, ◌++◌, map, length, drop, sym, refl, ap, ◌∙◌, subst, append_assoc, arith, length-append}
+use Rattle.std.proofs.lemmas.List.{append-nil, map-append}
 use Rattle.format.specs.declared.marks.Mark.{Mark as MarkPlace}
-use Rattle.format.specs.Plain.{Mark}
+use Rattle.format.specs.declared.lanes.LaneLists.{LaneLists}
+use Rattle.format.specs.Plain.{Lane, Mark}
 use Rattle.format.specs.Form.{Token}
 use Rattle.format.specs.Items.{Took, took, other, then, all}
 use Rattle.format.specs.Turns.{Fault, Got, got, lost, on, or_14, tokens, form, forms}
-use Rattle.format.specs.Reads.{Begins, MarkAt, MarksAt}
+use Rattle.format.specs.Reads.{Pushed, LanePushed, LanesKept, MarkAt, MarksAt, MarksKept}
 
 -- what is taken, made into something else
 abbrev pub made : {A B : Type 0} → (A → B) → (List Token → Took A) → List Token → Took B
@@ -86,24 +87,32 @@ read_all f src from at count first k r h =
 pub push_long : {A : Type 0} (xs : List A) (a : A) (k : ℕ) → length xs ≡ k → length (xs ++ (a ∷ [])) ≡ k + 1
 push_long xs a k e = length-append xs (a ∷ []) ∙ ap (λ n. n + 1) e
 
+-- a list that items are added to
+
+pub pushed_none : {A : Type 0} (n : ℕ) (before : List A) → Pushed n [] before before
+pushed_none n before h = sym (append-nil before)
+
+pub pushed_more : {A : Type 0} (n : ℕ) (xs : List A) (x : A) (before now now' : List A) → Pushed n xs before now → (length now < n → now' ≡ now ++ x ∷ []) → Pushed n (xs ++ x ∷ []) before now'
+pushed_more n xs x before now now' p q h =
+    let l = length-append xs (x ∷ []) in
+    let was = p (omega arith) in
+    let long = ap length was ∙ length-append before xs in
+    let room : length now < n = omega arith in
+    q room ∙ (ap (λ zs. zs ++ x ∷ []) was ∙ append_assoc before xs (x ∷ []))
+
 -- a column of the lanes
+pub column_more : (f : Lane → ℕ) (n : ℕ) (ls : List Lane) (l : Lane) (before now now' : List ℕ) → Pushed n (map f ls) before now → (length now < n → now' ≡ now ++ f l ∷ []) → Pushed n (map f (ls ++ l ∷ [])) before now'
+column_more f n ls l before now now' p q = subst (λ xs. Pushed n xs before now') (sym (map-append f ls (l ∷ []))) (pushed_more n (map f ls) (f l) before now now' p q)
 
-pub column_none : {A : Type 0} (f : A → ℕ) (ys : List ℕ) → Begins (map f []) ys ys
-column_none f ys h = refl
+pub lanes_none : (lists : LaneLists) → LanesKept [] lists lists
+lanes_none lists = record { tails_kept = pushed_none 16384 lists.tails.items; heads_kept = pushed_none 16384 lists.heads.items; costs_kept = pushed_none 16384 lists.costs.items }
 
-pub column_more : {A : Type 0} (f : A → ℕ) (xs : List A) (a : A) (before now : List ℕ) (k : ℕ) → length xs ≡ k → Begins (map f xs) before now → Begins (map f (xs ++ (a ∷ []))) before (set now k (f a))
-column_more f xs a before now k e b h =
-    let l = length-map xs f in
-    let l' = length-map (xs ++ (a ∷ [])) f in
-    let s = push_long xs a k e in
-    let in-it : k < length before = omega arith in
-    let was = b (omega arith) in
-    let here : length (map f xs) ≡ k = omega arith in
-    let d = drop_more before k 0 in-it in
-    let n : length (map f (xs ++ (a ∷ []))) ≡ k + 1 = omega arith in
-    ap (λ zs. set zs k (f a)) (was ∙ (ap (λ m. map f xs ++ drop m before) here ∙ ap (λ zs. map f xs ++ zs) d))
-    ∙ (set_at (map f xs) _ (drop (k + 1) before) (f a) k here
-    ∙ (sym (append_assoc (map f xs) (f a ∷ []) (drop (k + 1) before)) ∙ (ap (λ zs. zs ++ drop (k + 1) before) (sym (map-append f xs (a ∷ []))) ∙ ap (λ m. map f (xs ++ (a ∷ [])) ++ drop m before) (sym n))))
+pub lanes_more : (ls : List Lane) (l : Lane) (before now now' : LaneLists) → LanesKept ls before now → LanePushed l.tail l.head l.cost now now' → LanesKept (ls ++ l ∷ []) before now'
+lanes_more ls l before now now' k p = record {
+  tails_kept = column_more (λ (l : Lane). l.tail) 16384 ls l before.tails.items now.tails.items now'.tails.items k.tails_kept p.0;
+  heads_kept = column_more (λ (l : Lane). l.head) 16384 ls l before.heads.items now.heads.items now'.heads.items k.heads_kept p.1;
+  costs_kept = column_more (λ (l : Lane). l.cost) 16384 ls l before.costs.items now.costs.items now'.costs.items k.costs_kept p.2;
+}
 
 -- the places of the landmarks
 
@@ -113,10 +122,20 @@ marks_push n [] (y ∷ ys) m x h a = absurd h
 marks_push n (l ∷ ms) [] m x h a = absurd h
 marks_push n (l ∷ ms) (y ∷ ys) m x h a = (h.0, marks_push n ms ys m x h.1 a)
 
-pub marks_more : (n : ℕ) (ms : List Mark) (m : Mark) (x : MarkPlace) (marks : List MarkPlace) (k : ℕ) → length ms ≡ k → MarkAt n m x → (length ms ≤ length marks → MarksAt n ms (take (length ms) marks)) → length (ms ++ (m ∷ [])) ≤ length (set marks k x) → length (set marks k x) ≡ length marks → MarksAt n (ms ++ (m ∷ [])) (take (length (ms ++ (m ∷ []))) (set marks k x))
-marks_more n ms m x marks k e a b h l =
-    let s = push_long ms m k e in
-    let in-it : k < length marks = omega arith in
-    let was = b (omega arith) in
-    let now = marks_push n ms (take (length ms) marks) m x was a in
-    subst (MarksAt n (ms ++ (m ∷ []))) (ap (λ i. take i marks ++ (x ∷ [])) e ∙ (sym (take_more_set marks k x in-it) ∙ ap (λ i. take i (set marks k x)) (sym s))) now
+pub marks_length : (n : ℕ) (ms : List Mark) (xs : List MarkPlace) → MarksAt n ms xs → length ms ≡ length xs
+marks_length n [] [] h = refl
+marks_length n [] (x ∷ xs) h = absurd h
+marks_length n (m ∷ ms) [] h = absurd h
+marks_length n (m ∷ ms) (x ∷ xs) h = ap suc (marks_length n ms xs h.1)
+
+pub marks_none : (n : ℕ) (before : List MarkPlace) → MarksKept n [] before before
+marks_none n before h = ([], sym (append-nil before), tt)
+
+pub marks_more : (n : ℕ) (ms : List Mark) (m : Mark) (x : MarkPlace) (before now now' : List MarkPlace) → MarkAt n m x → MarksKept n ms before now → (length now < 16 → now' ≡ now ++ x ∷ []) → MarksKept n (ms ++ (m ∷ [])) before now'
+marks_more n ms m x before now now' a k q h =
+    let l = length-append ms (m ∷ []) in
+    let was = k (omega arith) in
+    let same = marks_length n ms was.0 was.2 in
+    let long = ap length was.1 ∙ length-append before was.0 in
+    let room : length now < 16 = omega arith in
+    (was.0 ++ x ∷ [], q room ∙ (ap (λ zs. zs ++ x ∷ []) was.1 ∙ append_assoc before was.0 (x ∷ [])), marks_push n ms was.0 m x was.2 a)

@@ -139,10 +139,6 @@ pub wide : (k : Token) (t : List ℕ) → lex t ≡ item k → 0 < width k
 wide k [] e = absurd (let z : ◌≡◌ {A = ℕ} 0 1 = cc in omega arith)
 wide k (c ∷ t) e = cond_both (eqb c 32) (lex_item t) (lex_item (c ∷ t)) (Wide k) (λ _. wide_item k t) (λ _. wide_item k (c ∷ t)) e
 
-pub gap_le : (t : List ℕ) → gap t ≤ 1
-gap_le [] = omega arith
-gap_le (c ∷ t) = cond_both (eqb c 32) 1 0 (λ n. n ≤ 1) (λ _. omega arith) (λ _. omega arith)
-
 -- the test of a token
 
 pub sound_from : (k : Token) → sound_token k ≡ true → Sound k

@@ -27,4 +27,5 @@ mod Tables
 mod CommandLines
 mod Numbered
 mod Exits
+mod Wholes
 mod Feeds

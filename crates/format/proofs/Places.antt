@@ -1,10 +1,10 @@
 -- Tokens at a place of the text.
-use Rattle.std.proofs.Common.{◌≡◌, ℕ, ◌+◌, Bool, true, false, List, [], ◌∷◌, drop, Some, None, sym, refl, ap, ◌∙◌, subst, arith, drop-drop}
+use Rattle.std.proofs.Common.{◌≡◌, ℕ, ◌+◌, Bool, true, false, List, [], ◌∷◌, drop, None, sym, refl, ap, ◌∙◌, subst, arith, drop-drop}
 use Rattle.std.specs.List.{AllByRecursion}
 use Rattle.format.specs.Form.{Token, opened, closed, hyphen, run, letters, digits, begin, line, scan}
-use Rattle.format.specs.Items.{sound_token, unsound, Took, took, other}
+use Rattle.format.specs.Items.{sound_token, unsound}
 use Rattle.format.specs.Lex.{item, over, lex, gap, width}
-use Rattle.format.specs.Places.{TokensAt, Ahead, Agrees}
+use Rattle.format.specs.Places.{TokensAt, Ahead}
 use Rattle.format.proofs.Spelled.{spelled, Good, scanned_only}
 use Rattle.format.proofs.Sounds.{Sound, none_sound}
 use Rattle.format.proofs.Lexes.{ends_item, lexes, lexes_over, lexes_on}
@@ -46,19 +46,3 @@ at_some src at e (j ∷ ts) k q p h =
       sounds = ap sound_token (sym same) ∙ h.1;
       there = subst (λ n. TokensAt src n ts) (ap (λ t. at + gap (drop at src) + width t) same ∙ sym p) h.2;
     }
-
--- what an agreement says of the definition
-pub agrees_none : {A X : Type 0} (R : A → X → Type 0) (end : X → ℕ) (src : List ℕ) (t : Took A) → Agrees R end src t None → t ≡ other
-agrees_none R end src (took a ts) h = absurd h
-agrees_none R end src other h = refl
-
-pub record Agreed {A X : Type 0} (R : A → X → Type 0) (end : X → ℕ) (src : List ℕ) (t : Took A) (x : X) : Type 0 where
-  pub a : A
-  pub ts : List Token
-  pub is : t ≡ took a ts
-  pub fits : R a x
-  pub there : TokensAt src (end x) ts
-
-pub agrees_some : {A X : Type 0} (R : A → X → Type 0) (end : X → ℕ) (src : List ℕ) (t : Took A) (x : X) → Agrees R end src t (Some x) → Agreed R end src t x
-agrees_some R end src (took a ts) x h = record { a = a; ts = ts; is = refl; fits = h.0; there = h.1 }
-agrees_some R end src other x h = absurd h

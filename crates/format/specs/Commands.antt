@@ -1,7 +1,7 @@
 -- Commands, and where a line ends that is no form.
 use Rattle.std.specs.Prelude.{◌≡◌, ℕ, cond, List, [], ◌∷◌, drop, Some, None, Ok, Err, codes, Option, Result, ◌==◌}
-use Rattle.format.specs.declared.command.Command.{Command}
-use Rattle.format.specs.declared.command.Command.TheVariants.{One, Two, Close, Reopen}
+use Rattle.search.specs.declared.call.Call.{Call}
+use Rattle.search.specs.declared.call.Call.TheVariants.{One, Two, Close, Reopen}
 use Rattle.format.specs.declared.command.CommandLine.{CommandLine}
 use Rattle.format.specs.declared.fault.ReadFault.{ReadFault}
 use Rattle.format.specs.Faults.{told}
@@ -35,12 +35,12 @@ pair_form w ts =
     then (closes ts) λ _ ts. took (a, b) ts
 
 -- what was taken, as a command, or else the next
-abbrev pub or_next : {A : Type 0} → (A → Command) → Option A → Option Command → Option Command
+abbrev pub or_next : {A : Type 0} → (A → Call) → Option A → Option Call → Option Call
 or_next f None next = next
 or_next f (Some a) next = Some (f a)
 
 -- (one START GOAL), (two START GOAL), (close LANE) or (reopen LANE)
-abbrev pub command_of : List Token → Option Command
+abbrev pub command_of : List Token → Option Call
 command_of ts =
     or_next (λ (p : ℕ × ℕ). One p.0 p.1) (all (pair_form one_word ts))
     (or_next (λ (p : ℕ × ℕ). Two p.0 p.1) (all (pair_form two_word ts))
@@ -48,11 +48,11 @@ command_of ts =
     (or_next Reopen (all (single_form reopen_word ts)) None)))
 
 -- the command on line n
-unfoldable pub command_line : ℕ → List ℕ → Got Command
+unfoldable pub command_line : ℕ → List ℕ → Got Call
 command_line n t = on (tokens n t) λ ts t. or_14 n (command_of ts) t
 
 -- a command's line
-abbrev pub CommandRead : List ℕ → Got Command → Result CommandLine ReadFault → Type 0
+abbrev pub CommandRead : List ℕ → Got Call → Result CommandLine ReadFault → Type 0
 CommandRead src g (Ok l) = g ≡ got l.command (drop l.end src)
 CommandRead src g (Err f) = g ≡ lost (told f)
 

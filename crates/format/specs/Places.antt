@@ -1,6 +1,7 @@
 -- The tokens that stand from a place of the text on, and what code takes from them.
 use Rattle.std.specs.Prelude.{◌≡◌, ℕ, ◌+◌, true, List, [], ◌∷◌, drop, Some, None, Option}
 use Rattle.format.specs.declared.cursor.Cursor.{Cursor}
+use Rattle.format.specs.declared.token.Line.{Line}
 use Rattle.format.specs.declared.token.Token.{Token as Written}
 use Rattle.format.specs.Form.{Token}
 use Rattle.format.specs.Lex.{item, over, lex, gap, width}
@@ -18,6 +19,13 @@ pub record Ahead (src : List ℕ) (e : ℕ) (ts : List Token) (k : Token) : Type
   pub is : ts ≡ k ∷ us
   pub sounds : sound_token k ≡ true
   pub there : TokensAt src e us
+
+-- these tokens stand from a cursor on, or from a line's beginning on
+abbrev pub TokensFrom : Cursor → List Token → Type 0
+TokensFrom c ts = TokensAt c.line.text.now c.at ts
+
+abbrev pub TokensIn : Line → List Token → Type 0
+TokensIn l ts = TokensAt l.text.now l.from ts
 
 -- the next token was met; or none stands there
 abbrev pub Meets : Cursor → List Token → Option Written → Type 0

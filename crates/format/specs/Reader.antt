@@ -3,7 +3,12 @@ use Rattle.std.specs.Prelude.{◌≡◌, ℕ, ◌+◌, ◌*◌, true, ◌⊎◌,
 use Rattle.plants.specs.Columns.{Columns}
 use Rattle.plants.specs.Index.{joined, firsts, grouped}
 use Rattle.plants.specs.declared.fault.PlantFault.{PlantFault}
+use Rattle.plants.specs.Faults.{counts_fit}
 use Rattle.format.specs.declared.counts.Counts.{Counts}
+use Rattle.format.specs.declared.counts.Space.{Space}
+use Rattle.format.specs.declared.lanes.LaneLists.{LaneLists}
+use Rattle.format.specs.declared.marks.Mark.{Mark as MarkPlace}
+use Rattle.format.specs.declared.plant_lines.PlantLines.{PlantLines}
 use Rattle.format.specs.declared.fault.ReadFault.{ReadFault}
 use Rattle.format.specs.declared.fault.ReadFault.TheVariants.{NoForm, Form, Number, Short, Plant}
 use Rattle.format.specs.declared.plant_file.PlantFile.{PlantFile}
@@ -11,7 +16,7 @@ use Rattle.format.specs.Plain.{Mark, Plain, tails, heads, costs, to_row, from_ro
 use Rattle.format.specs.Checks.{Room, has_room, has_counts}
 use Rattle.format.specs.Faults.{line_of, told}
 use Rattle.format.specs.Read.{read}
-use Rattle.format.specs.Reads.{Sized}
+use Rattle.format.specs.Reads.{Sized, LanesKept, MarksKept}
 use Rattle.format.specs.Space.{room_for, space_of}
 use Rattle.format.specs.Turns.{got, lost, lines}
 
@@ -42,6 +47,20 @@ Refuses room t (Form line) = read room t ≡ lost (told (Form line))
 Refuses room t (Number line byte) = read room t ≡ lost (told (Number line byte))
 Refuses room t Short = read room t ≡ lost (told Short)
 Refuses room t (Plant fault line) = RefusesPlant room t fault line
+
+-- a plant of which the lines were read, and the counts and the room tested; and the lists that its lanes and landmarks are kept in, before and after
+pub record Tested (limits : Counts) (s : Space) (t : List ℕ) (lanes lanes' : LaneLists) (marks marks' : List MarkPlace) (l : PlantLines) : Type 0 where
+  pub plant : Plain
+  pub read_as : lines t ≡ got plant (drop l.end t)
+  pub sized : Sized plant l.counts
+  pub lanes_kept : LanesKept plant.lanes lanes lanes'
+  pub marks_kept : MarksKept plant.nodes plant.marks marks marks'
+  pub fit : counts_fit l.counts.nodes l.counts.lanes l.counts.landmarks ≡ true
+  pub room : room_for l.counts limits s ≡ true
+
+abbrev pub ReadTested : Counts → Space → List ℕ → LaneLists → LaneLists → List MarkPlace → List MarkPlace → Result PlantLines ReadFault → Type 0
+ReadTested limits s t lanes lanes' marks marks' (Ok l) = Tested limits s t lanes lanes' marks marks' l
+ReadTested limits s t lanes lanes' marks marks' (Err f) = (lists : Columns) → s ≡ space_of lists → Refuses (room_of limits lists) t f
 
 -- the lists after a plant with these lanes was written into them
 pub record Written (nodes : ℕ) (tails heads costs : List ℕ) (before after : Columns) : Type 0 where

@@ -2,51 +2,40 @@
 ghost use Rattle.std.specs.Prelude.{◌≡◌, ◌-◌, ◌==◌, List, length, drop, position};
 ghost use Rattle.format.specs.Commands.{command_of, command_line, CommandRead, behind_feed};
 ghost use Rattle.format.specs.Form.{Token as Spelt};
-ghost use Rattle.format.specs.Places.{TokensAt};
+ghost use Rattle.format.specs.Places.{TokensIn};
 
 use crate::cursor::behind;
 use crate::fault::ReadFault;
 use crate::form::take_numbers;
-use crate::line::checked;
+use crate::line::{Whole, read_whole};
 use crate::token::Line;
+use search::call::Call;
 
-// What a line asks for.
-#[derive(Clone, Copy, PartialEq, Eq, Debug)]
-pub enum Command {
-    // a least route, looked for from its start
-    One { start: u32, goal: u32 },
-    // a least route, looked for from both ends
-    Two { start: u32, goal: u32 },
-    // a lane is closed, or opened again
-    Close { lane: u32 },
-    Reopen { lane: u32 },
-}
-
-// A command, and where the next line begins.
+// A command, and where the next line begins: a `Whole` under the names that callers have.
 #[derive(Clone, Copy, PartialEq, Eq, Debug)]
 pub struct CommandLine {
-    pub command: Command,
+    pub command: Call,
     pub end: usize,
 }
 
 // The whole line as a command.
-fn take_command(line: Line) -> Option<Command>
-    ensures { (ts : List Spelt) → TokensAt line.entry.text.now line.entry.from ts → command_of ts ≡ result }
+fn take_command(line: Line) -> Option<Call>
+    ensures { (ts : List Spelt) → TokensIn line.entry ts → command_of ts ≡ result }
 {
     if let Some(numbers) = take_numbers::<2>(line, b"one") {
         let [start, goal] = numbers;
-        return Some(Command::One { start, goal });
+        return Some(Call::One { start, goal });
     }
     if let Some(numbers) = take_numbers::<2>(line, b"two") {
         let [start, goal] = numbers;
-        return Some(Command::Two { start, goal });
+        return Some(Call::Two { start, goal });
     }
     if let Some(numbers) = take_numbers::<1>(line, b"close") {
         let [lane] = numbers;
-        return Some(Command::Close { lane });
+        return Some(Call::Close(lane));
     }
     let [lane] = take_numbers::<1>(line, b"reopen")?;
-    Some(Command::Reopen { lane })
+    Some(Call::Reopen(lane))
 }
 
 // The command on the line that begins at a byte.
@@ -58,9 +47,8 @@ pub fn read_command(text: &[u8], from: usize, line: usize) -> Result<CommandLine
         number: line,
         from,
     };
-    let end = checked(here)?;
-    let command = take_command(here).ok_or(ReadFault::Form { line })?;
-    Ok(CommandLine { command, end })
+    let Whole { form, end } = read_whole(here, take_command)?;
+    Ok(CommandLine { command: form, end })
 }
 
 // Where the first line feed is.

@@ -24,13 +24,12 @@ pub(crate) struct Space {
 fn has_room(counts: Counts, room: Counts, space: Space) -> bool
     ensures { result ≡ room_for counts room space }
 {
-    if counts.nodes > room.nodes || counts.lanes > room.lanes || counts.landmarks > room.landmarks {
-        return false;
-    }
-    if space.lanes < counts.lanes as usize || space.firsts < counts.nodes as usize + 1 {
-        return false;
-    }
-    counts.landmarks as usize * counts.nodes as usize <= space.tables
+    counts.nodes <= room.nodes
+        && counts.lanes <= room.lanes
+        && counts.landmarks <= room.landmarks
+        && counts.lanes as usize <= space.lanes
+        && (counts.nodes as usize) < space.firsts
+        && counts.landmarks as usize * counts.nodes as usize <= space.tables
 }
 
 // Tests that there is room.

@@ -3,7 +3,7 @@ ghost use Rattle.std.specs.Prelude.{◌≡◌, ◌+◌, ◌≤◌, List, [], dro
 ghost use Rattle.format.specs.Form.{Token as Spelt, Kind};
 ghost use Rattle.format.specs.Items.{begins, closes, number as a_number, value as a_value, values};
 ghost use Rattle.format.specs.Lex.{lex_item, lex, gap, width, front};
-ghost use Rattle.format.specs.Places.{TokensAt, Meets, Passed, TookPast, TookNumber, passed};
+ghost use Rattle.format.specs.Places.{TokensFrom, Meets, Passed, TookPast, TookNumber, passed};
 ghost use Rattle.format.specs.Told.{token_of, LexedAs, Met, TestsFor};
 
 use crate::number::number;
@@ -13,8 +13,8 @@ use crate::token::{Line, Token};
 // The length that no route has, written as a hyphen.
 const BEYOND: u32 = 4294967295;
 
-// A place in a line.
-#[derive(Clone, Copy)]
+// A place in a line. The tokens from there on are a premise of the clauses, and no ghost field, since lines are walked before they are tested.
+#[derive(Clone, Copy, Default)]
 pub struct Cursor<'a> {
     pub line: Line<'a>,
     pub at: usize,
@@ -58,7 +58,7 @@ impl<'a> Cursor<'a> {
     // The next token, past a space if one stands there.
     pub fn next(&mut self) -> Option<Token<'a>>
         ensures met { Met (drop self.old.at self.old.line.text.now) self.old.at self.new.at result }
-        ensures taken { (ts : List Spelt) → TokensAt self.old.line.text.now self.old.at ts → Meets self.new ts result }
+        ensures taken { (ts : List Spelt) → TokensFrom self.old ts → Meets self.new ts result }
         ensures same { self.new.line ≡ self.old.line }
     {
         let rest = behind(self.line.text, self.at);
@@ -70,14 +70,14 @@ impl<'a> Cursor<'a> {
 
     // Past a given token.
     fn pass(&mut self, wanted: Token) -> Option<()>
-        ensures { (ts : List Spelt) → TokensAt self.old.line.text.now self.old.at ts → Passed (token_of wanted.entry) self.new ts result }
+        ensures { (ts : List Spelt) → TokensFrom self.old ts → Passed (token_of wanted.entry) self.new ts result }
     {
         (self.next()? == wanted).then_some(())
     }
 
     // Past the bracket and the word that a form begins with.
     pub fn open(&mut self, word: &[u8]) -> Option<()>
-        ensures { (ts : List Spelt) → TokensAt self.old.line.text.now self.old.at ts → TookPast self.new (begins word.now ts) result }
+        ensures { (ts : List Spelt) → TokensFrom self.old ts → TookPast self.new (begins word.now ts) result }
     {
         self.pass(Token::Open)?;
         self.pass(Token::Word(word))
@@ -85,14 +85,14 @@ impl<'a> Cursor<'a> {
 
     // Past the bracket that a form ends with.
     pub fn close(&mut self) -> Option<()>
-        ensures { (ts : List Spelt) → TokensAt self.old.line.text.now self.old.at ts → TookPast self.new (closes ts) result }
+        ensures { (ts : List Spelt) → TokensFrom self.old ts → TookPast self.new (closes ts) result }
     {
         self.pass(Token::Close)
     }
 
     // A number.
     pub fn number(&mut self) -> Option<u32>
-        ensures { (ts : List Spelt) → TokensAt self.old.line.text.now self.old.at ts → TookNumber self.new (a_number ts) result }
+        ensures { (ts : List Spelt) → TokensFrom self.old ts → TookNumber self.new (a_number ts) result }
     {
         match self.next()? {
             Token::Number(digits) => number(digits),
@@ -102,7 +102,7 @@ impl<'a> Cursor<'a> {
 
     // A table's value: a number, or a hyphen for beyond.
     pub fn value(&mut self) -> Option<u32>
-        ensures { (ts : List Spelt) → TokensAt self.old.line.text.now self.old.at ts → TookNumber self.new (a_value ts) result }
+        ensures { (ts : List Spelt) → TokensFrom self.old ts → TookNumber self.new (a_value ts) result }
     {
         match self.next()? {
             Token::Number(digits) => number(digits),
@@ -113,7 +113,7 @@ impl<'a> Cursor<'a> {
 
     // Past so many values of a table.
     pub fn skip_values(&mut self, count: u32) -> Option<()>
-        ensures { (ts : List Spelt) → TokensAt self.old.line.text.now self.old.at ts → TookPast self.new (passed (values count ts)) result }
+        ensures { (ts : List Spelt) → TokensFrom self.old ts → TookPast self.new (passed (values count ts)) result }
     {
         for _ in 0..count {
             self.value()?;
@@ -123,7 +123,7 @@ impl<'a> Cursor<'a> {
 
     // Whether no token stands from here on.
     pub fn is_over(mut self) -> bool
-        ensures { (ts : List Spelt) → TokensAt self.entry.line.text.now self.entry.at ts → Decides result (ts ≡ []) }
+        ensures { (ts : List Spelt) → TokensFrom self.entry ts → Decides result (ts ≡ []) }
     {
         self.next().is_none()
     }

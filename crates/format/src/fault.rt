@@ -55,11 +55,8 @@ fn line_of(fault: PlantFault, lanes: usize) -> usize
     ensures { result ≡ line_of fault lanes }
 {
     match fault {
-        PlantFault::Counts => 1,
-        PlantFault::Lengths => 1,
-        PlantFault::Index => 1,
-        PlantFault::Ends(lane) => lane.saturating_add(2),
-        PlantFault::Cost(lane) => lane.saturating_add(2),
+        PlantFault::Counts | PlantFault::Lengths | PlantFault::Index => 1,
+        PlantFault::Ends(lane) | PlantFault::Cost(lane) => lane.saturating_add(2),
         PlantFault::Table(landmark, _) => landmark.saturating_add(lanes).saturating_add(2),
     }
 }
@@ -68,18 +65,15 @@ fn line_of(fault: PlantFault, lanes: usize) -> usize
 pub(crate) fn with_lanes(answer: Result<(), PlantFault>, lanes: usize) -> Result<(), Placed>
     ensures { result ≡ with_lanes lanes answer }
 {
-    match answer {
-        Ok(()) => Ok(()),
-        Err(fault) => Err(Placed { fault, lanes }),
-    }
+    answer.map_err(|fault| Placed { fault, lanes })
 }
 
-impl ReadFault {
-    // How the fault is told.
-    pub fn refusal(self) -> Refusal
-        ensures { result ≡ read_refusal self }
-    {
-        match self {
+// How a fault is told.
+impl From<ReadFault> for Refusal {
+    ghost from_gives = { λ f r. r ≡ read_refusal f };
+
+    fn from(fault: ReadFault) -> Refusal {
+        match fault {
             ReadFault::NoForm { line, byte } => Refusal {
                 number: 13,
                 layer: Layer::Text,
@@ -107,7 +101,9 @@ impl ReadFault {
             ReadFault::Plant { fault, line: _ } => fault.refusal(),
         }
     }
+}
 
+impl ReadFault {
     // The line that the reader adds to a plant's fault, which names none itself.
     pub fn added_line(self) -> Option<usize>
         ensures { result ≡ added_line self }

@@ -2,14 +2,14 @@
 ghost use Rattle.std.specs.Prelude.{◌≡◌, ℕ, List, length};
 ghost use Rattle.format.specs.Form.{Token as Spelt};
 ghost use Rattle.format.specs.Items.{all, numbers_form};
-ghost use Rattle.format.specs.Places.{TokensAt, ValuesAt};
+ghost use Rattle.format.specs.Places.{TokensIn, ValuesAt};
 
 use crate::cursor::Cursor;
 use crate::token::Line;
 
 // The numbers of the whole line (WORD A B ..).
 pub fn take_numbers<const N: usize>(line: Line, word: &[u8]) -> Option<[u32; N]>
-    ensures { (ts : List Spelt) → TokensAt line.entry.text.now line.entry.from ts → all (numbers_form N word.now ts) ≡ result }
+    ensures { (ts : List Spelt) → TokensIn line.entry ts → all (numbers_form N word.now ts) ≡ result }
 {
     let mut cursor = line.start();
     cursor.open(word)?;

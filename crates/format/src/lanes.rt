@@ -1,22 +1,24 @@
 // The lines that give a plant's counts and its lanes.
-ghost use Rattle.std.specs.Prelude.{◌≡◌, drop, slice_set};
+ghost use Rattle.std.specs.Prelude.{◌≡◌, ◌<◌, [], ◌∷◌, ◌++◌, length, drop, slice_index};
 ghost use Rattle.format.specs.Items.{triple, lane_form};
 ghost use Rattle.format.specs.Turns.{form, forms};
-ghost use Rattle.format.specs.Reads.{NumbersRead, LinesRead, LanesKept};
+ghost use Rattle.format.specs.Reads.{NumbersRead, LinesRead, LanesKept, LanePushed};
 
 use crate::fault::ReadFault;
 use crate::form::take_numbers;
-use crate::line::checked;
+use crate::line::{Whole, read_whole};
 use crate::token::Line;
+use arrayvec::ArrayVec;
 
-// A line of three numbers, and where the next line begins.
-#[derive(Clone, Copy)]
-pub struct NumbersLine {
-    pub numbers: [u32; 3],
-    pub end: usize,
+// The lanes that are read, by column, as many as there is room for.
+#[derive(Drop)]
+pub struct LaneLists {
+    pub tails: ArrayVec<u32, 16384>,
+    pub heads: ArrayVec<u32, 16384>,
+    pub costs: ArrayVec<u32, 16384>,
 }
 
-// The lanes that were read, by column.
+// The lanes of a plant, by column, as the tests of a plant and its index take them.
 #[derive(Clone, Copy)]
 pub struct Lanes<'a> {
     pub tails: &'a [u32],
@@ -25,33 +27,63 @@ pub struct Lanes<'a> {
 }
 
 // A whole line (WORD A B C).
-pub fn numbers_line(line: Line, word: &[u8]) -> Result<NumbersLine, ReadFault>
+pub fn numbers_line(line: Line, word: &[u8]) -> Result<Whole<[u32; 3]>, ReadFault>
     ensures { NumbersRead line.entry.text.now (form (triple word.now) line.entry.number (drop line.entry.from line.entry.text.now)) result }
 {
-    let end = checked(line)?;
-    let numbers = take_numbers(line, word).ok_or(ReadFault::Form { line: line.number })?;
-    Ok(NumbersLine { numbers, end })
+    read_whole(line, |line| take_numbers(line, word))
 }
 
-// Writes a value if the list has room for it.
-pub fn keep<T: Copy>(list: &mut [T], i: usize, value: T)
-    ensures { list.new ≡ slice_set list.old i value }
+// Adds an item if the list has room for it.
+pub fn keep<T: Copy, const N: usize>(list: &mut ArrayVec<T, N>, item: T)
+    ensures { length list.old.items < N → list.new.items ≡ list.old.items ++ item ∷ [] }
 {
-    if i < list.len() {
-        list[i] = value;
+    if !list.is_full() {
+        list.push(item);
     }
 }
 
-// Reads so many lane lines from line 2 on, and keeps the lanes that the lists have room for; answers where the next line begins.
+impl LaneLists {
+    // No lanes.
+    pub fn new() -> LaneLists
+        ensures { (result.tails.items ≡ []) × (result.heads.items ≡ []) × (result.costs.items ≡ []) }
+    {
+        LaneLists {
+            tails: ArrayVec::new(),
+            heads: ArrayVec::new(),
+            costs: ArrayVec::new(),
+        }
+    }
+
+    // The lanes, as slices.
+    pub fn lanes(&self) -> Lanes<'_>
+        ensures { (result.tails.now ≡ self.now.tails.items) × (result.heads.now ≡ self.now.heads.items) × (result.costs.now ≡ self.now.costs.items) }
+    {
+        Lanes {
+            tails: self.tails.as_slice(),
+            heads: self.heads.as_slice(),
+            costs: self.costs.as_slice(),
+        }
+    }
+
+    // Adds the lane of a line, if there is room.
+    fn push(&mut self, lane: [u32; 3])
+        ensures { LanePushed (slice_index lane 0) (slice_index lane 1) (slice_index lane 2) self.old self.new }
+    {
+        let [tail, head, cost] = lane;
+        keep(&mut self.tails, tail);
+        keep(&mut self.heads, head);
+        keep(&mut self.costs, cost);
+    }
+}
+
+// Reads so many lane lines from line 2 on, and keeps the lanes that there is room for; answers where the next line begins.
 pub fn read_lanes(
     text: &[u8],
     from: usize,
     count: u32,
-    tails: &mut [u32],
-    heads: &mut [u32],
-    costs: &mut [u32],
+    lanes: &mut LaneLists,
 ) -> Result<usize, ReadFault>
-    ensures { LinesRead text.now count (λ ls. LanesKept ls tails.old tails.new heads.old heads.new costs.old costs.new) (forms lane_form count 2 (drop from text.now)) result }
+    ensures { LinesRead text.now count (λ ls. LanesKept ls lanes.old lanes.new) (forms lane_form count 2 (drop from text.now)) result }
 {
     let mut at = from;
     for k in 0..count as usize {
@@ -61,10 +93,7 @@ pub fn read_lanes(
             from: at,
         };
         let lane = numbers_line(line, b"lane")?;
-        let [tail, head, cost] = lane.numbers;
-        keep(tails, k, tail);
-        keep(heads, k, head);
-        keep(costs, k, cost);
+        lanes.push(lane.form);
         at = lane.end;
     }
     Ok(at)

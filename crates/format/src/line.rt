@@ -1,6 +1,6 @@
 // The tests that every line has to pass, whatever it says: it is one form, and its numbers are sound.
 ghost use Rattle.std.specs.Prelude.{◌≡◌, ℕ, false, List, drop};
-ghost use Rattle.format.specs.Checked.{Checked};
+ghost use Rattle.format.specs.Checked.{Checked, WholeRead};
 ghost use Rattle.format.specs.Form.{Token as Spelt, begin, line as a_line, scan};
 ghost use Rattle.format.specs.Items.{sound_token, unsound};
 ghost use Rattle.format.specs.Told.{token_of};
@@ -35,7 +35,7 @@ fn first_unsound(line: Line) -> Option<usize>
 }
 
 // Where a line ends.
-pub fn checked(line: Line) -> Result<usize, ReadFault>
+fn checked(line: Line) -> Result<usize, ReadFault>
     ensures { Checked line.entry.number line.entry.text.now line.entry.from result }
 {
     let end = line_end(line)?;
@@ -46,4 +46,24 @@ pub fn checked(line: Line) -> Result<usize, ReadFault>
         }),
         None => Ok(end),
     }
+}
+
+// What a whole line says, and where the next line begins.
+#[derive(Clone, Copy)]
+pub struct Whole<T> {
+    pub form: T,
+    pub end: usize,
+}
+
+// A line that passes its tests, taken as a form.
+pub fn read_whole<'a, T: Copy, F: FnOnce(Line<'a>) -> Option<T>>(
+    line: Line<'a>,
+    take: F,
+) -> Result<Whole<T>, ReadFault>
+    requires { F.IsAlwaysCallable take }
+    ensures { WholeRead line.entry (λ r. F.post take line.entry r) result }
+{
+    let end = checked(line)?;
+    let form = take(line).ok_or(ReadFault::Form { line: line.number })?;
+    Ok(Whole { form, end })
 }

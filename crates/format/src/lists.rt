@@ -1,4 +1,4 @@
-// The lists that a plant is read into; they belong to the caller.
+// The lists that a plant is read into; they belong to the caller, and are slices since the reader takes no memory.
 ghost use Rattle.std.specs.Prelude.{◌≡◌};
 ghost use Rattle.format.specs.Space.{held, space_of};
 
@@ -17,18 +17,20 @@ pub struct ListsMut<'a> {
     pub from: &'a mut [u32],
 }
 
-// The length of the shortest list of each kind.
-pub(crate) fn space(lists: &ListsMut) -> Space
-    ensures { result ≡ space_of (held lists.now) }
-{
-    Space {
-        lanes: lists
-            .tails
-            .len()
-            .min(lists.heads.len())
-            .min(lists.costs.len())
-            .min(lists.by_head.len()),
-        firsts: lists.first_out.len().min(lists.first_in.len()),
-        tables: lists.to.len().min(lists.from.len()),
+impl ListsMut<'_> {
+    // The length of the shortest list of each kind.
+    pub(crate) fn space(&self) -> Space
+        ensures { result ≡ space_of (held self.now) }
+    {
+        Space {
+            lanes: self
+                .tails
+                .len()
+                .min(self.heads.len())
+                .min(self.costs.len())
+                .min(self.by_head.len()),
+            firsts: self.first_out.len().min(self.first_in.len()),
+            tables: self.to.len().min(self.from.len()),
+        }
     }
 }

@@ -2,7 +2,7 @@
 ghost use Rattle.std.specs.Prelude.{◌≡◌, ℕ, ◌+◌, ◌*◌, ◌≤◌, List, ◌++◌, map, length, take, drop};
 ghost use Rattle.format.specs.Form.{Token as Spelt};
 ghost use Rattle.format.specs.Items.{all, table, mark_form};
-ghost use Rattle.format.specs.Places.{TokensAt, ValuesAt};
+ghost use Rattle.format.specs.Places.{TokensFrom, TokensIn, ValuesAt};
 ghost use Rattle.format.specs.Plain.{Mark as Landmark, to_row, from_row};
 ghost use Rattle.plants.specs.Index.{joined};
 ghost use Rattle.format.specs.Reads.{TookTable, MarkTaken, MarkRead, LinesRead, MarksAt, MarksKept};
@@ -13,28 +13,22 @@ use crate::cursor::Cursor;
 use crate::fault::ReadFault;
 use crate::form::fill_values;
 use crate::lanes::{Lanes, keep};
-use crate::line::checked;
+use crate::line::{Whole, read_whole};
 use crate::token::Line;
+use arrayvec::ArrayVec;
 use plants::check::check_landmark;
 use plants::fault::PlantFault;
 
 // Where the values of a landmark's two tables begin.
-#[derive(Clone, Copy)]
+#[derive(Clone, Copy, Default)]
 pub struct Mark<'a> {
     pub to: Cursor<'a>,
     pub from: Cursor<'a>,
 }
 
-// A mark line, and where the next line begins.
-#[derive(Clone, Copy)]
-pub struct MarkLine<'a> {
-    pub mark: Mark<'a>,
-    pub end: usize,
-}
-
 // (WORD X…), with so many values; answers where they begin.
 fn take_table<'a>(cursor: &mut Cursor<'a>, word: &[u8], count: u32) -> Option<Cursor<'a>>
-    ensures { (ts : List Spelt) → TokensAt cursor.old.line.text.now cursor.old.at ts → TookTable count cursor.new (table word.now count ts) result }
+    ensures { (ts : List Spelt) → TokensFrom cursor.old ts → TookTable count cursor.new (table word.now count ts) result }
 {
     cursor.open(word)?;
     let values = *cursor;
@@ -45,7 +39,7 @@ fn take_table<'a>(cursor: &mut Cursor<'a>, word: &[u8], count: u32) -> Option<Cu
 
 // The whole line as (mark (to X…) (from X…)).
 fn take_mark<'a>(line: Line<'a>, nodes: u32) -> Option<Mark<'a>>
-    ensures { (ts : List Spelt) → TokensAt line.entry.text.now line.entry.from ts → MarkTaken nodes (all (mark_form nodes ts)) result }
+    ensures { (ts : List Spelt) → TokensIn line.entry ts → MarkTaken nodes (all (mark_form nodes ts)) result }
 {
     let mut cursor = line.start();
     cursor.open(b"mark")?;
@@ -56,22 +50,20 @@ fn take_mark<'a>(line: Line<'a>, nodes: u32) -> Option<Mark<'a>>
 }
 
 // A whole line (mark (to X…) (from X…)).
-fn mark_line<'a>(line: Line<'a>, nodes: u32) -> Result<MarkLine<'a>, ReadFault>
+fn mark_line<'a>(line: Line<'a>, nodes: u32) -> Result<Whole<Mark<'a>>, ReadFault>
     ensures { MarkRead nodes line.entry.text.now (form (mark_form nodes) line.entry.number (drop line.entry.from line.entry.text.now)) result }
 {
-    let end = checked(line)?;
-    let mark = take_mark(line, nodes).ok_or(ReadFault::Form { line: line.number })?;
-    Ok(MarkLine { mark, end })
+    read_whole(line, |line| take_mark(line, nodes))
 }
 
-// Reads all mark lines, and keeps those that the list has room for; answers where the last one ends.
+// Reads all mark lines, and keeps those that the list has room for; answers where the last one ends. (`read_lanes` is a loop of its own: one over a closure that fills either list would have clauses longer than both.)
 pub fn read_marks<'a>(
     text: &'a [u8],
     from: usize,
     counts: Counts,
-    marks: &mut [Mark<'a>],
+    marks: &mut ArrayVec<Mark<'a>, 16>,
 ) -> Result<usize, ReadFault>
-    ensures { LinesRead text.now counts.landmarks (λ ms. MarksKept counts.nodes ms marks.new) (forms (mark_form counts.nodes) counts.landmarks (2 + counts.lanes) (drop from text.now)) result }
+    ensures { LinesRead text.now counts.landmarks (λ ms. MarksKept counts.nodes ms marks.old.items marks.new.items) (forms (mark_form counts.nodes) counts.landmarks (2 + counts.lanes) (drop from text.now)) result }
 {
     let mut at = from;
     for m in 0..counts.landmarks as usize {
@@ -81,7 +73,7 @@ pub fn read_marks<'a>(
             from: at,
         };
         let read = mark_line(line, counts.nodes)?;
-        keep(marks, m, read.mark);
+        keep(marks, read.form);
         at = read.end;
     }
     Ok(at)

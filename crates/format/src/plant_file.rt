@@ -1,18 +1,18 @@
 // Reading a plant file into the caller's lists.
 ghost use Rattle.std.specs.Prelude.{◌≡◌, ◌+◌, ◌≤◌, List, ◌++◌, length, drop, MatchResult};
 ghost use Rattle.plants.specs.Index.{firsts, grouped};
-ghost use Rattle.format.specs.Reader.{Written, TablesWritten, ReadAs, room_of};
+ghost use Rattle.format.specs.Reader.{Written, TablesWritten, ReadTested, ReadAs, room_of};
 ghost use Rattle.format.specs.Plain.{Mark as Landmark};
 ghost use Rattle.format.specs.Reads.{MarksAt};
 ghost use Rattle.format.specs.Space.{held, after, space_of, Spacious};
 
-use crate::counts::{Counts, check_room};
+use crate::counts::{Counts, Space, check_room};
 use crate::fault::{ReadFault, with_lanes};
-use crate::lanes::Lanes;
-use crate::lists::{ListsMut, space};
+use crate::lanes::{LaneLists, Lanes};
+use crate::lists::ListsMut;
 use crate::marks::{Mark, fill_tables, test_marks};
-use crate::plant_lines::read_lines;
-use crate::token::Line;
+use crate::plant_lines::{PlantLines, read_lines};
+use arrayvec::ArrayVec;
 use plants::check::{check_costs, check_counts, check_ends};
 use plants::fault::PlantFault;
 use plants::index::index;
@@ -30,7 +30,7 @@ fn copy(list: &[u32], into: &mut [u32])
     requires { length list.now ≤ length into.old }
     ensures { into.new ≡ list.now ++ drop (length list.now) into.old }
 {
-    into[0..list.len()].copy_from_slice(list);
+    into[..list.len()].copy_from_slice(list);
 }
 
 // Writes the index of the lanes into the front of three lists.
@@ -82,11 +82,30 @@ fn settle(nodes: u32, lanes: Lanes, marks: &[Mark], lists: ListsMut) -> Result<(
     Ok(())
 }
 
+// Reads the lines of a plant file, and tests that the counts are lawful and that there is room.
+fn read_tested<'a>(
+    text: &'a [u8],
+    room: Counts,
+    space: Space,
+    lanes: &mut LaneLists,
+    marks: &mut ArrayVec<Mark<'a>, 16>,
+) -> Result<PlantLines, ReadFault>
+    ensures { ReadTested room space text.now lanes.old lanes.new marks.old.items marks.new.items result }
+{
+    let read = read_lines(text, lanes, marks)?;
+    let counts = read.counts;
+    let count = counts.lanes as usize;
+    with_lanes(check_counts(counts.nodes, count, counts.landmarks), count)?;
+    check_room(counts, room, space)?;
+    Ok(read)
+}
+
 // Reads a plant file from the text's beginning. Its lines are tested in turn, then the plant as a whole; the lists are written only if no test fails.
 pub fn read_plant(text: &[u8], room: Counts, lists: ListsMut) -> Result<PlantFile, ReadFault>
     ensures { ReadAs (room_of room (held lists.entry)) text.now (held lists.entry) (after lists.exit) result }
 {
-    let space = space(&lists);
+    let space = lists.space();
+    // taken apart, so that what each list holds has a name until they are settled
     let ListsMut {
         tails,
         heads,
@@ -97,35 +116,10 @@ pub fn read_plant(text: &[u8], room: Counts, lists: ListsMut) -> Result<PlantFil
         to,
         from,
     } = lists;
-    let mut read_tails = [0u32; 16384];
-    let mut read_heads = [0u32; 16384];
-    let mut read_costs = [0u32; 16384];
-    let start = Line {
-        text,
-        number: 1,
-        from: 0,
-    };
-    let mut marks = [Mark {
-        to: start.start(),
-        from: start.start(),
-    }; 16];
-    let read = read_lines(
-        text,
-        &mut read_tails,
-        &mut read_heads,
-        &mut read_costs,
-        &mut marks,
-    )?;
-    let counts = read.counts;
+    let mut lanes = LaneLists::new();
+    let mut marks = ArrayVec::new();
+    let PlantLines { counts, end } = read_tested(text, room, space, &mut lanes, &mut marks)?;
     let count = counts.lanes as usize;
-    let landmarks = counts.landmarks as usize;
-    with_lanes(check_counts(counts.nodes, count, counts.landmarks), count)?;
-    check_room(counts, room, space)?;
-    let lanes = Lanes {
-        tails: &read_tails[0..count],
-        heads: &read_heads[0..count],
-        costs: &read_costs[0..count],
-    };
     let into = ListsMut {
         tails,
         heads,
@@ -137,12 +131,12 @@ pub fn read_plant(text: &[u8], room: Counts, lists: ListsMut) -> Result<PlantFil
         from,
     };
     with_lanes(
-        settle(counts.nodes, lanes, &marks[0..landmarks], into),
+        settle(counts.nodes, lanes.lanes(), marks.as_slice(), into),
         count,
     )?;
     Ok(PlantFile {
         counts,
-        end: read.end,
-        lines: 1 + count + landmarks,
+        end,
+        lines: 1 + count + counts.landmarks as usize,
     })
 }

@@ -3,9 +3,10 @@ ghost use Rattle.format.specs.Reads.{PlantRead};
 
 use crate::counts::Counts;
 use crate::fault::ReadFault;
-use crate::lanes::{numbers_line, read_lanes};
+use crate::lanes::{LaneLists, numbers_line, read_lanes};
 use crate::marks::{Mark, read_marks};
 use crate::token::Line;
+use arrayvec::ArrayVec;
 
 // The counts that the first line gives, and the byte behind the last line.
 #[derive(Clone, Copy)]
@@ -17,12 +18,10 @@ pub struct PlantLines {
 // Reads the lines in turn, and keeps the lanes and landmarks that the lists have room for.
 pub fn read_lines<'a>(
     text: &'a [u8],
-    tails: &mut [u32],
-    heads: &mut [u32],
-    costs: &mut [u32],
-    marks: &mut [Mark<'a>],
+    lanes: &mut LaneLists,
+    marks: &mut ArrayVec<Mark<'a>, 16>,
 ) -> Result<PlantLines, ReadFault>
-    ensures { PlantRead text.now tails.old tails.new heads.old heads.new costs.old costs.new marks.new result }
+    ensures { PlantRead text.now lanes.old lanes.new marks.old.items marks.new.items result }
 {
     let start = Line {
         text,
@@ -30,13 +29,13 @@ pub fn read_lines<'a>(
         from: 0,
     };
     let first = numbers_line(start, b"plant")?;
-    let [nodes, lanes, landmarks] = first.numbers;
+    let [nodes, count, landmarks] = first.form;
     let counts = Counts {
         nodes,
-        lanes,
+        lanes: count,
         landmarks,
     };
-    let lanes_end = read_lanes(text, first.end, lanes, tails, heads, costs)?;
+    let lanes_end = read_lanes(text, first.end, count, lanes)?;
     let end = read_marks(text, lanes_end, counts, marks)?;
     Ok(PlantLines { counts, end })
 }

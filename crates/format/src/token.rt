@@ -28,7 +28,7 @@ impl Token<'_> {
 }
 
 // A line of a text: its number, from 1, and where it begins.
-#[derive(Clone, Copy)]
+#[derive(Clone, Copy, Default)]
 pub struct Line<'a> {
     pub text: &'a [u8],
     pub number: usize,

@@ -1,6 +1,7 @@
 // The memory of the program: the lists of its plant, and the work areas of its searches.
 use cost::length::Length;
 use format::counts::Counts;
+use plants::lists::ListsOf;
 use search::entry::{Entry, no_entry};
 use search::reply::{Done, Reply};
 use search::row::Row;
@@ -13,19 +14,6 @@ pub const MOST: Counts = Counts {
     lanes: 512,
     landmarks: 4,
 };
-
-// Room for the largest plant's lists.
-#[derive(Drop)]
-pub struct PlantRoom {
-    pub tails: Vec<u32>,
-    pub heads: Vec<u32>,
-    pub costs: Vec<u32>,
-    pub first_out: Vec<u32>,
-    pub first_in: Vec<u32>,
-    pub by_head: Vec<u32>,
-    pub to: Vec<u32>,
-    pub from: Vec<u32>,
-}
 
 // Room for a search of the largest plant, from both ends.
 #[derive(Drop)]
@@ -43,8 +31,9 @@ pub struct ReplyRoom {
     pub routes: Vec<u32>,
 }
 
-pub fn plant_room(heap: Global) -> Result<PlantRoom, AllocError> {
-    Ok(PlantRoom {
+// Room for the largest plant's lists.
+pub fn plant_room(heap: Global) -> Result<ListsOf<Vec<u32>>, AllocError> {
+    Ok(ListsOf {
         tails: vec![in heap; 0; 512]?,
         heads: vec![in heap; 0; 512]?,
         costs: vec![in heap; 0; 512]?,

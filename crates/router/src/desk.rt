@@ -1,15 +1,15 @@
 // The program's work: the plant first, then the commands in turn.
-use crate::areas::{MOST, PlantRoom, plant_room, reply_room, search_room};
+use crate::areas::{MOST, plant_room, reply_room, search_room};
 use crate::input::MOST_BYTES;
 use crate::show::{Refused, Told};
 use cost::length::Length;
-use format::command::{Command, line_feed_after, read_command};
+use format::command::{line_feed_after, read_command};
 use format::fault::ReadFault;
 use format::lists::ListsMut;
 use format::plant_file::{PlantFile, read_plant};
+use plant::refusal::Refusal;
 use plants::lane_plant::LanePlant;
-use plants::lists::Lists;
-use plants::make::{lone, make};
+use plants::lists::{Lists, ListsOf};
 use search::call::Call;
 use search::reply::Reply;
 use search::serve::serve as serve_calls;
@@ -32,7 +32,7 @@ pub fn serve(rt: &HostRuntime, text: &[u8]) -> anyhow::Result<()> {
 }
 
 // Reads the plant into the program's lists.
-fn fill(text: &[u8], room: &mut PlantRoom) -> Result<PlantFile, ReadFault> {
+fn fill(text: &[u8], room: &mut ListsOf<Vec<u32>>) -> Result<PlantFile, ReadFault> {
     let lists = ListsMut {
         tails: room.tails.as_mut_slice(),
         heads: room.heads.as_mut_slice(),
@@ -56,7 +56,7 @@ fn serve_plant(
     rt: &HostRuntime,
     text: &[u8],
     file: PlantFile,
-    room: &PlantRoom,
+    room: &ListsOf<Vec<u32>>,
 ) -> anyhow::Result<()> {
     let lanes = file.counts.lanes as usize;
     let ends = (file.counts.nodes as usize).saturating_add(1);
@@ -71,22 +71,12 @@ fn serve_plant(
         to: front(&room.to, table),
         from: front(&room.from, table),
     };
-    let mut plant = lone();
-    match make(&mut plant, file.counts.nodes, file.counts.landmarks, lists) {
-        Ok(()) => answer_all(rt, text, file, &plant),
+    match LanePlant::new(file.counts.nodes, file.counts.landmarks, lists) {
+        Ok(plant) => answer_all(rt, text, file, &plant),
         Err(fault) => {
-            rt.println(Refused::from(fault.refusal()))?;
+            rt.println(Refused::from(Refusal::from(fault)))?;
             Ok(())
         }
-    }
-}
-
-fn call_of(command: Command) -> Call {
-    match command {
-        Command::One { start, goal } => Call::One { start, goal },
-        Command::Two { start, goal } => Call::Two { start, goal },
-        Command::Close { lane } => Call::Close(lane),
-        Command::Reopen { lane } => Call::Reopen(lane),
     }
 }
 
@@ -100,7 +90,7 @@ fn read_lines(
     let mut at = file.end;
     let mut line = file.lines.saturating_add(1);
     while at < text.len() {
-        lines.push(read_command(text, at, line).map(|read| call_of(read.command)))?;
+        lines.push(read_command(text, at, line).map(|read| read.command))?;
         at = line_feed_after(text, at);
         line = line.saturating_add(1);
     }
@@ -147,7 +137,7 @@ fn answer_all(
             told.routes.as_slice(),
         ),
         Err(fault) => {
-            rt.println(Refused::from(fault.refusal()))?;
+            rt.println(Refused::from(Refusal::from(fault)))?;
             Ok(())
         }
     }

@@ -1,8 +1,8 @@
 // The printed forms of answers and refusals.
 use cost::length::Length;
 use format::fault::ReadFault;
-use plant::refusal::{Layer, Refusal};
-use search::answer::Counts;
+use plant::refusal::Refusal;
+use search::answer::{Counts, Route};
 use search::reply::{Done, Reply};
 use std::fmt;
 
@@ -19,16 +19,6 @@ impl fmt::Display for Nodes<'_> {
             write!(f, "{v}")?;
         }
         Ok(())
-    }
-}
-
-fn layer_name(layer: Layer) -> &'static str {
-    match layer {
-        Layer::Plant => "plant",
-        Layer::Search => "search",
-        Layer::Shift => "shift",
-        Layer::Text => "text",
-        Layer::Form => "form",
     }
 }
 
@@ -51,7 +41,7 @@ impl From<Refusal> for Refused {
 impl From<ReadFault> for Refused {
     fn from(fault: ReadFault) -> Refused {
         Refused {
-            refusal: fault.refusal(),
+            refusal: Refusal::from(fault),
             line: fault.added_line(),
         }
     }
@@ -65,8 +55,7 @@ impl fmt::Display for Refused {
             first,
             second,
         } = self.refusal;
-        let name = layer_name(layer);
-        write!(f, "(refused {number} {name} {first} {second}")?;
+        write!(f, "(refused {number} {layer} {first} {second}")?;
         if let Some(line) = self.line {
             write!(f, " {line}")?;
         }
@@ -111,10 +100,9 @@ impl fmt::Display for Told<'_> {
             Ok(Done::Searched { answer, from }) => {
                 let scans = Scans(answer.scanned);
                 match answer.route {
-                    Some(route) => {
-                        let metres = route.cost.metres;
-                        let nodes = nodes_at(self.routes, from, route.nodes);
-                        write!(f, "(route {metres} {scans} ({nodes}))")
+                    Some(Route { cost, nodes }) => {
+                        let nodes = nodes_at(self.routes, from, nodes);
+                        write!(f, "(route {cost} {scans} ({nodes}))")
                     }
                     None => write!(f, "(beyond {scans})"),
                 }

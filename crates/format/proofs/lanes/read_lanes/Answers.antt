@@ -1,19 +1,15 @@
-use Rattle.std.proofs.Common.{ℕ, ◌+◌, [], ◌∷◌, ◌++◌, map, drop, slice_index, sym, refl, subst, arith}
+use Rattle.std.proofs.Common.{ℕ, ◌+◌, [], ◌∷◌, ◌++◌, drop, slice_index, refl, arith}
 use Rattle.std.proofs.lemmas.Result.{err_from_is_err_and}
 use Rattle.format.specs.Plain.{Lane}
 use Rattle.format.specs.Items.{triple, lane_word, lane_form}
-use Rattle.format.specs.Reads.{Begins, triple_of}
-use Rattle.format.proofs.Kept.{made_lost, made_got, read_none, read_lost, read_more, read_all, push_long, column_none, column_more}
+use Rattle.format.specs.Reads.{triple_of}
+use Rattle.format.proofs.Kept.{made_lost, made_got, read_none, read_lost, read_more, read_all, push_long, lanes_none, lanes_more}
 use Rattle.format.proofs.lanes.read_lanes.Goals as goal
 
 pub loop-k-init : goal.loop-k-init
 loop-k-init c = (
   record { xs = []; long = refl; is = read_none lane_form (drop c.args.from c.args.text.now) c.args.count 2 },
-  record {
-    tails_kept = column_none (λ (l : Lane). l.tail) c.args.tails.now;
-    heads_kept = column_none (λ (l : Lane). l.head) c.args.heads.now;
-    costs_kept = column_none (λ (l : Lane). l.cost) c.args.costs.now;
-  },
+  lanes_none c.args.lanes.now,
 )
 
 pub returns-in_err-lane : goal.returns-in_err-lane
@@ -29,7 +25,7 @@ unfolding lane_form
 loop-k-preserved c =
     let r = c.loop-k.invariant.0 in
     let k = c.loop-k.invariant.1 in
-    let n = c.in_ok-lane.lane.numbers in
+    let n = c.in_ok-lane.lane.form in
     let a : Lane = record { tail = slice_index n 0; head = slice_index n 1; cost = slice_index n 2 } in (
       record {
         xs = r.xs ++ (a ∷ []);
@@ -39,17 +35,7 @@ loop-k-preserved c =
             (made_got (λ (r : ℕ × ℕ × ℕ). record { tail = r.0; head = r.1; cost = r.2 }) (triple lane_word) (2 + c.loop-k.k) (drop c.loop-k.at c.args.text.now) (drop c.in_ok-lane.lane.end c.args.text.now)
             (triple_of n) c.in_ok-lane.ensures);
       },
-      record {
-        tails_kept =
-            subst (Begins (map (λ (l : Lane). l.tail) (r.xs ++ (a ∷ []))) c.args.tails.now) (sym c.keep.ensures)
-            (column_more (λ (l : Lane). l.tail) r.xs a c.args.tails.now c.loop-k.tails c.loop-k.k r.long k.tails_kept);
-        heads_kept =
-            subst (Begins (map (λ (l : Lane). l.head) (r.xs ++ (a ∷ []))) c.args.heads.now) (sym c.keep-in-loop-k.ensures)
-            (column_more (λ (l : Lane). l.head) r.xs a c.args.heads.now c.loop-k.heads c.loop-k.k r.long k.heads_kept);
-        costs_kept =
-            subst (Begins (map (λ (l : Lane). l.cost) (r.xs ++ (a ∷ []))) c.args.costs.now) (sym c.keep-in-loop-k-2.ensures)
-            (column_more (λ (l : Lane). l.cost) r.xs a c.args.costs.now c.loop-k.costs c.loop-k.k r.long k.costs_kept);
-      },
+      lanes_more r.xs a c.args.lanes.now c.loop-k.lanes c.push.new.self k c.push.ensures,
     )
 
 pub returns : goal.returns

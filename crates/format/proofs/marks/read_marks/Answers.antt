@@ -1,12 +1,11 @@
-use Rattle.std.proofs.Common.{◌≡◌, ◌+◌, [], ◌∷◌, ◌++◌, length, drop, set, sym, refl, subst, arith, length-set}
+use Rattle.std.proofs.Common.{◌+◌, [], ◌∷◌, ◌++◌, drop, refl, arith}
 use Rattle.std.proofs.lemmas.Result.{err_from_is_err_and}
 use Rattle.format.specs.Items.{mark_form}
-use Rattle.format.specs.Reads.{MarksKept}
-use Rattle.format.proofs.Kept.{read_none, read_lost, read_more, read_all, push_long, marks_more}
+use Rattle.format.proofs.Kept.{read_none, read_lost, read_more, read_all, push_long, marks_none, marks_more}
 use Rattle.format.proofs.marks.read_marks.Goals as goal
 
 pub loop-m-init : goal.loop-m-init
-loop-m-init c = (record { xs = []; long = refl; is = read_none (mark_form c.args.counts.nodes) (drop c.args.from c.args.text.now) c.args.counts.landmarks (2 + c.args.counts.lanes) }, λ _. tt)
+loop-m-init c = (record { xs = []; long = refl; is = read_none (mark_form c.args.counts.nodes) (drop c.args.from c.args.text.now) c.args.counts.landmarks (2 + c.args.counts.lanes) }, marks_none c.args.counts.nodes c.args.marks.now.items)
 
 pub returns-in_err-read : goal.returns-in_err-read
 returns-in_err-read c =
@@ -19,8 +18,7 @@ pub loop-m-preserved : goal.loop-m-preserved
 loop-m-preserved c =
     let r = c.loop-m.invariant.0 in
     let k = c.in_ok-read.ensures in
-    let m = k.0 in
-    let l : length (set c.loop-m.marks c.loop-m.m c.in_ok-read.read.mark) ≡ length c.loop-m.marks = length-set c.loop-m.marks c.loop-m.m c.in_ok-read.read.mark in (
+    let m = k.0 in (
       record {
         xs = r.xs ++ (m ∷ []);
         long = push_long r.xs m c.loop-m.m r.long;
@@ -28,8 +26,7 @@ loop-m-preserved c =
             read_more (mark_form c.args.counts.nodes) c.args.text.now c.args.from c.loop-m.at c.in_ok-read.read.end c.args.counts.landmarks (2 + c.args.counts.lanes) c.loop-m.m m r
             c.loop-m-test.true k.1;
       },
-      subst (MarksKept c.args.counts.nodes (r.xs ++ (m ∷ []))) (sym c.keep.ensures)
-          (λ h. marks_more c.args.counts.nodes r.xs m c.in_ok-read.read.mark c.loop-m.marks c.loop-m.m r.long k.2 c.loop-m.invariant.1 h l),
+      marks_more c.args.counts.nodes r.xs m c.in_ok-read.read.form c.args.marks.now.items c.loop-m.marks.items c.keep.new.list.items k.2 c.loop-m.invariant.1 c.keep.ensures,
     )
 
 pub returns : goal.returns

@@ -1,83 +1,67 @@
-use Rattle.std.proofs.Common.{◌≡◌, ℕ, ◌≤◌, true, List, length, drop, replicate, sym, refl, ap, ◌∙◌, arith}
-use lib.ListN.{length-replicate}
+use Rattle.std.proofs.Common.{length, drop, sym, refl, ap, ◌∙◌}
 use Rattle.std.proofs.lemmas.Result.{err_from_is_err_and}
-use Rattle.plants.specs.Faults.{counts_fit}
 use Rattle.format.specs.Plain.{Lane}
-use Rattle.format.specs.Reader.{room_of, Roomy}
-use Rattle.format.specs.Space.{held, room_for}
-use Rattle.format.proofs.Answered.{counts_refused, counts_kept, sized_counts, sized_room, refuses_line, placed_fault, placed_none, refuses_counts, refuses_short, refuses_found, few_lanes, few_marks, kept_marks, kept_column, written_for, tables_for}
+use Rattle.format.specs.Reader.{room_of}
+use Rattle.format.specs.Space.{held}
+use Rattle.format.proofs.Kept.{marks_length}
+use Rattle.format.proofs.Answered.{roomy_for, spacious_for, column_long, few_nodes, placed_fault, placed_none, refuses_found, few_lanes, few_marks, kept_marks, kept_column, written_for, tables_for}
 use Rattle.format.proofs.plant_file.read_plant.Goals as goal
 
-pub returns-in_err-read : goal.returns-in_err-read
-returns-in_err-read c =
+pub returns-in_err-counts : goal.returns-in_err-counts
+returns-in_err-counts c =
     let e = err_from_is_err_and c.from_residual.result c.from_residual.ensures.1 in
-    rw (e.1, e.2) (refuses_line (room_of c.args.room (held c.args.lists)) c.args.text.now _ c.in_err-read.ensures, refl)
+    rw (e.1, e.2) (c.in_err-counts.ensures (held c.args.lists) c.space-space.ensures, refl)
 
 pub returns-in_err-with_lanes : goal.returns-in_err-with_lanes
 returns-in_err-with_lanes c =
-    let k = c.in_ok-read.ensures in
-    let p = k.0 in
-    let counts = c.in_ok-read.read.counts in
+    let k = c.in_ok-counts.ensures in
+    let l = c.in_ok-counts.field-0 in
+    let roomy = roomy_for c.args.room (held c.args.lists) c.space-space.result c.args.text.now _ _ _ _ l k c.space-space.ensures in
     let e = err_from_is_err_and c.from_residual-in_err-with_lanes.result c.from_residual-in_err-with_lanes.ensures.1 in
-    let q = placed_fault counts.lanes c.check_counts.result _ c.in_err-with_lanes.ensures in
-    let f = counts_refused (counts_fit counts.nodes counts.lanes counts.landmarks) _ (rw q.0 at c.check_counts.ensures) in
-    rw (e.1, e.2) (refuses_counts (room_of c.args.room (held c.args.lists)) c.args.text.now (drop c.in_ok-read.read.end c.args.text.now) p _ k.1 (sized_counts p counts k.2 ∙ f.1) f.0, refl)
-
-pub returns-in_err-check_room : goal.returns-in_err-check_room
-returns-in_err-check_room c =
-    let k = c.in_ok-read.ensures in
-    let p = k.0 in
-    let counts = c.in_ok-read.read.counts in
-    let ok = placed_none counts.lanes c.check_counts.result _ c.in_ok-with_lanes.ensures in
-    let fit : counts_fit counts.nodes counts.lanes counts.landmarks ≡ true = counts_kept _ (rw ok at c.check_counts.ensures) in
-    let e = err_from_is_err_and c.from_residual-in_err-check_room.result c.from_residual-in_err-check_room.ensures.1 in
-    let f = c.in_err-check_room.ensures in
-    rw (e.1, e.2) (
-      refuses_short (room_of c.args.room (held c.args.lists)) c.args.text.now (drop c.in_ok-read.read.end c.args.text.now) p _ k.1 (sized_counts p counts k.2 ∙ fit)
-          (sized_room p counts c.args.room (held c.args.lists) k.2 ∙ (ap (λ s. room_for counts c.args.room s) (sym c.space-space.ensures) ∙ f.1)) f.0,
-      refl,
-    )
-
-pub returns-in_err-with_lanes-2 : goal.returns-in_err-with_lanes-2
-returns-in_err-with_lanes-2 c =
-    let k = c.in_ok-read.ensures in
-    let p = k.0 in
-    let counts = c.in_ok-read.read.counts in
-    let ok = placed_none counts.lanes c.check_counts.result _ c.in_ok-with_lanes.ensures in
-    let fit : counts_fit counts.nodes counts.lanes counts.landmarks ≡ true = counts_kept _ (rw ok at c.check_counts.ensures) in
-    let has = sized_room p counts c.args.room (held c.args.lists) k.2 ∙ (ap (λ s. room_for counts c.args.room s) (sym c.space-space.ensures) ∙ c.in_ok-check_room.ensures) in
-    let roomy : Roomy (room_of c.args.room (held c.args.lists)) c.args.text.now (drop c.in_ok-read.read.end c.args.text.now) p = record { read_as = k.1; counted = sized_counts p counts k.2 ∙ fit; has = has } in
-    let e = err_from_is_err_and c.from_residual-in_err-with_lanes-2.result c.from_residual-in_err-with_lanes-2.ensures.1 in
-    let q = placed_fault counts.lanes c.settle.result _ c.in_err-with_lanes-2.ensures in
+    let q = placed_fault l.counts.lanes c.settle.result _ c.in_err-with_lanes.ensures in
     let f = rw q.0 at c.settle.ensures in
-    rw (e.1, e.2) (refuses_found (room_of c.args.room (held c.args.lists)) c.args.text.now (drop c.in_ok-read.read.end c.args.text.now) p _ roomy (q.1 ∙ sym k.2.lanes), f)
+    rw (e.1, e.2) (refuses_found (room_of c.args.room (held c.args.lists)) c.args.text.now (drop l.end c.args.text.now) k.plant _ roomy (q.1 ∙ sym k.sized.lanes), f)
 
 pub returns : goal.returns
 returns c =
-    let k = c.in_ok-read.ensures in
-    let p = k.0 in
-    let counts = c.in_ok-read.read.counts in
-    let ok = placed_none counts.lanes c.check_counts.result _ c.in_ok-with_lanes.ensures in
-    let fit : counts_fit counts.nodes counts.lanes counts.landmarks ≡ true = counts_kept _ (rw ok at c.check_counts.ensures) in
-    let has = sized_room p counts c.args.room (held c.args.lists) k.2 ∙ (ap (λ s. room_for counts c.args.room s) (sym c.space-space.ensures) ∙ c.in_ok-check_room.ensures) in
-    let roomy : Roomy (room_of c.args.room (held c.args.lists)) c.args.text.now (drop c.in_ok-read.read.end c.args.text.now) p = record { read_as = k.1; counted = sized_counts p counts k.2 ∙ fit; has = has } in
-    let q = placed_none counts.lanes c.settle.result _ c.in_ok-with_lanes-2.ensures in
+    let k = c.in_ok-counts.ensures in
+    let l = c.in_ok-counts.field-0 in
+    let p = k.plant in
+    let counts = l.counts in
+    let q = placed_none counts.lanes c.settle.result _ c.in_ok-with_lanes.ensures in
     let w = rw q at c.settle.ensures in
-    let few = few_lanes counts.nodes counts.lanes counts.landmarks fit in
-    let some = few_marks counts.nodes counts.lanes counts.landmarks fit in
-    let sixteen : length c.read_lines.new.marks ≡ 16 = c.read_lines.auto.marks in
-    let room : counts.landmarks ≤ length c.read_lines.new.marks = omega arith in
-    let zeros : List ℕ = replicate 16384 0 in
-    let long : counts.lanes ≤ length zeros = simp length-replicate few in
+    let few = few_lanes counts.nodes counts.lanes counts.landmarks k.fit in
+    let some = few_marks counts.nodes counts.lanes counts.landmarks k.fit in
+    let empty = c.new-lanes.ensures in
     record {
       plant = p;
-      roomy = roomy;
-      sized = k.2;
+      roomy = roomy_for c.args.room (held c.args.lists) c.space-space.result c.args.text.now _ _ _ _ l k c.space-space.ensures;
+      sized = k.sized;
       lines_are = refl;
       written =
-          written_for counts.nodes p.nodes _ _ _ _ _ _ _ _ (sym k.2.nodes) (kept_column (λ (l : Lane). l.tail) p.lanes zeros _ counts.lanes k.2.lanes long k.3.tails_kept)
-          (kept_column (λ (l : Lane). l.head) p.lanes zeros _ counts.lanes k.2.lanes long k.3.heads_kept) (kept_column (λ (l : Lane). l.cost) p.lanes zeros _ counts.lanes k.2.lanes long k.3.costs_kept) w.0;
+          written_for counts.nodes p.nodes _ _ _ _ _ _ _ _ (sym k.sized.nodes)
+          (c.lanes.ensures.0 ∙ kept_column (λ (l : Lane). l.tail) p.lanes _ _ counts.lanes empty.0 k.sized.lanes few k.lanes_kept.tails_kept)
+          (c.lanes.ensures.1 ∙ kept_column (λ (l : Lane). l.head) p.lanes _ _ counts.lanes empty.1 k.sized.lanes few k.lanes_kept.heads_kept)
+          (c.lanes.ensures.2 ∙ kept_column (λ (l : Lane). l.cost) p.lanes _ _ counts.lanes empty.2 k.sized.lanes few k.lanes_kept.costs_kept) w.0;
       tables =
-          tables_for counts.nodes p.nodes p.marks _ _ (sym k.2.nodes)
-          (w.1 p.marks (kept_marks p.nodes counts.nodes counts.landmarks p.marks _ k.2.nodes k.2.marks room k.4));
+          tables_for counts.nodes p.nodes p.marks _ _ (sym k.sized.nodes)
+          (w.1 p.marks (rw c.as_slice.ensures.value (kept_marks p.nodes counts.nodes counts.landmarks p.marks _ _ k.sized.nodes c.new-marks.ensures k.sized.marks some k.marks_kept)));
     }
+
+pub settle-requires : goal.settle-requires
+settle-requires c =
+    let k = c.in_ok-counts.ensures in
+    let l = c.in_ok-counts.field-0 in
+    let p = k.plant in
+    let counts = l.counts in
+    let few = few_lanes counts.nodes counts.lanes counts.landmarks k.fit in
+    let some = few_marks counts.nodes counts.lanes counts.landmarks k.fit in
+    let empty = c.new-lanes.ensures in
+    let marks = kept_marks p.nodes counts.nodes counts.landmarks p.marks _ _ k.sized.nodes c.new-marks.ensures k.sized.marks some k.marks_kept in (
+      few_nodes counts.nodes counts.lanes counts.landmarks k.fit,
+      spacious_for counts c.args.room c.space-space.result _ _ _ _ _ k.room c.space-space.ensures
+          (ap length c.as_slice.ensures.value ∙ (sym (marks_length counts.nodes p.marks _ marks) ∙ k.sized.marks))
+          (column_long _ _ p.lanes counts.lanes k.sized.lanes (c.lanes.ensures.0 ∙ kept_column (λ (l : Lane). l.tail) p.lanes _ _ counts.lanes empty.0 k.sized.lanes few k.lanes_kept.tails_kept))
+          (column_long _ _ p.lanes counts.lanes k.sized.lanes (c.lanes.ensures.1 ∙ kept_column (λ (l : Lane). l.head) p.lanes _ _ counts.lanes empty.1 k.sized.lanes few k.lanes_kept.heads_kept))
+          (column_long _ _ p.lanes counts.lanes k.sized.lanes (c.lanes.ensures.2 ∙ kept_column (λ (l : Lane). l.cost) p.lanes _ _ counts.lanes empty.2 k.sized.lanes few k.lanes_kept.costs_kept)),
+    )
