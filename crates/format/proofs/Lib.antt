@@ -16,7 +16,6 @@ pub mod Lexes
 pub mod RunEnds
 pub mod Left
 pub mod Formed
-mod Fronts
 mod Places
 mod Taking
 mod Valued

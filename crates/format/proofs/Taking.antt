@@ -7,7 +7,7 @@ use Rattle.format.specs.declared.cursor.Cursor.{Cursor}
 use Rattle.format.specs.declared.marks.Mark.{Mark as MarkPlace}
 use Rattle.format.specs.Plain.{Mark}
 use Rattle.format.specs.Form.{Token, opened, closed, hyphen, run, letters, digits}
-use Rattle.format.specs.Items.{Took, took, other, all, opens, closes, says, same}
+use Rattle.format.specs.Items.{Took, took, other, all, opens, says, same}
 use Rattle.format.specs.Places.{TokensAt, Ahead, Passed, TookTo, TookPast, TookNumber, passed}
 use Rattle.format.specs.Reads.{ValuesFrom, TookTable, MarkAt, MarkTaken}
 
@@ -28,14 +28,6 @@ passes_open c (opened ∷ ts) None n = n ts refl
 passes_open c (closed ∷ ts) None n = tt
 passes_open c (hyphen ∷ ts) None n = tt
 passes_open c (run k w ∷ ts) None n = tt
-
-pub passes_close : (c : Cursor) (ts : List Token) (r : Option (Unit {0})) → Passed closed c ts r → TookPast c (closes ts) r
-passes_close c ts (Some u) a = rw a.is (tt, a.there)
-passes_close c [] None n = tt
-passes_close c (opened ∷ ts) None n = tt
-passes_close c (closed ∷ ts) None n = n ts refl
-passes_close c (hyphen ∷ ts) None n = tt
-passes_close c (run k w ∷ ts) None n = tt
 
 pub passes_word : (c : Cursor) (v : List ℕ) (ts : List Token) (r : Option (Unit {0})) → Passed (run letters v) c ts r → TookPast c (says v ts) r
 passes_word c v ts (Some u) a = let e = (same_decides v v).1 refl in rw (a.is, e) (tt, a.there)

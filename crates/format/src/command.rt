@@ -62,6 +62,7 @@ fn line_feed(text: &[u8]) -> Option<usize>
 pub fn line_feed_after(text: &[u8], from: usize) -> usize
     ensures { result ≡ length text.now - length (behind_feed (drop from text.now)) }
 {
+    // a `match`, since a closure's sum would have to be bounded once more
     match line_feed(behind(text, from)) {
         Some(i) => from + i + 1,
         None => text.len(),

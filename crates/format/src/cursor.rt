@@ -4,7 +4,7 @@ ghost use Rattle.format.specs.Form.{Token as Spelt, Kind};
 ghost use Rattle.format.specs.Items.{begins, closes, number as a_number, value as a_value, values};
 ghost use Rattle.format.specs.Lex.{lex_item, lex, gap, width, front};
 ghost use Rattle.format.specs.Places.{TokensFrom, Meets, Passed, TookPast, TookNumber, passed};
-ghost use Rattle.format.specs.Told.{token_of, LexedAs, Met, TestsFor};
+ghost use Rattle.format.specs.Told.{token_of, LexedAs, Told, TestsFor};
 
 use crate::number::number;
 use crate::phase::{is_digit, is_letter};
@@ -57,9 +57,8 @@ fn token(text: &[u8]) -> Option<Token<'_>>
 impl<'a> Cursor<'a> {
     // The next token, past a space if one stands there.
     pub fn next(&mut self) -> Option<Token<'a>>
-        ensures met { Met (drop self.old.at self.old.line.text.now) self.old.at self.new.at result }
+        ensures told { let rest = drop self.old.at self.old.line.text.now in Told (lex rest) self.old.line (self.old.at + gap rest) self.new result }
         ensures taken { (ts : List Spelt) → TokensFrom self.old ts → Meets self.new ts result }
-        ensures same { self.new.line ≡ self.old.line }
     {
         let rest = behind(self.line.text, self.at);
         let inner = rest.strip_prefix(b" ").unwrap_or(rest);

@@ -109,6 +109,7 @@ fn test_each(
 pub fn test_marks(marks: &[Mark], nodes: usize, lanes: Lanes) -> Result<(), PlantFault>
     requires { nodes ≤ 4096 }
 {
+    // rows of the most nodes that a plant has: fixed memory, since the reader takes none
     let mut to = [0u32; 4096];
     let mut from = [0u32; 4096];
     test_each(marks, lanes, &mut to[0..nodes], &mut from[0..nodes])

@@ -32,12 +32,14 @@ pub struct Unfit {
     pub byte: usize,
 }
 
+#[tactic(auto, unfolding(crate::specs::Form::belongs))]
 pub fn is_letter(c: u8) -> bool
     ensures { result ≡ belongs letters c }
 {
     c.is_ascii_lowercase()
 }
 
+#[tactic(auto, unfolding(crate::specs::Form::belongs))]
 pub fn is_digit(c: u8) -> bool
     ensures { result ≡ belongs digits c }
 {

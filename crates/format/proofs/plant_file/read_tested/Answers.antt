@@ -34,18 +34,3 @@ returns-in_err-check_room c =
     (λ lists q.
     refuses_short (room_of c.args.room lists) c.args.text.now (drop c.in_ok-read.read.end c.args.text.now) p _ k.1 (sized_counts p counts k.2 ∙ fit)
     (sized_room p counts c.args.room lists k.2 ∙ (ap (λ s. room_for counts c.args.room s) (sym q) ∙ f.1)) f.0)
-
-pub returns : goal.returns
-returns c =
-    let k = c.in_ok-read.ensures in
-    let counts = c.in_ok-read.read.counts in
-    let ok = placed_none counts.lanes c.check_counts.result _ c.in_ok-with_lanes.ensures in
-    record {
-      plant = k.0;
-      read_as = k.1;
-      sized = k.2;
-      lanes_kept = k.3;
-      marks_kept = k.4;
-      fit = counts_kept (counts_fit counts.nodes counts.lanes counts.landmarks) (rw ok at c.check_counts.ensures);
-      room = c.in_ok-check_room.ensures;
-    }

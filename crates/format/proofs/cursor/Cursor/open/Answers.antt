@@ -1,11 +1,6 @@
 use Rattle.format.specs.Items.{opens}
-use Rattle.format.proofs.Taking.{passes_open, passes_word, some_past, none_past}
+use Rattle.format.proofs.Taking.{passes_open, passes_word, some_past}
 use Rattle.format.proofs.cursor.Cursor.open.Goals as goal
-
-pub returns-in_err-pass : goal.returns-in_err-pass
-returns-in_err-pass c ts h =
-    let o = none_past c.pass.new.self (opens ts) (passes_open c.pass.new.self ts _ (c.in_err-pass.ensures ts h)) in
-    rw (c.from_residual.ensures, o) tt
 
 pub returns : goal.returns
 returns c ts h =
