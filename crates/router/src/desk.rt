@@ -81,6 +81,7 @@ fn serve_plant(
     }
 }
 
+// No `From`: both types are other crates'.
 fn call_of(command: Command) -> Call {
     match command {
         Command::One { start, goal } => Call::One { start, goal },
@@ -99,6 +100,7 @@ fn read_lines(
     let mut lines = Vec::new(heap);
     let mut at = file.end;
     let mut line = file.lines.saturating_add(1);
+    // by place: a fault tells the bytes of the whole text
     while at < text.len() {
         lines.push(read_command(text, at, line).map(|read| call_of(read.command)))?;
         at = line_feed_after(text, at);
