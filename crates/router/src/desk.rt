@@ -111,13 +111,7 @@ fn read_lines(
 
 // The calls among the lines.
 fn calls_of(heap: Global, lines: &[Result<Call, ReadFault>]) -> Result<Vec<Call>, AllocError> {
-    let mut calls = Vec::new(heap);
-    for line in lines {
-        if let Ok(call) = *line {
-            calls.push(call)?;
-        }
-    }
-    Ok(calls)
+    lines.iter().filter_map(|line| line.ok()).collect(heap)
 }
 
 // Makes all calls on a fresh shift over the plant, and prints the replies and the faults in the order of the lines.
