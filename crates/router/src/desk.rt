@@ -89,6 +89,7 @@ fn read_lines(
     let mut lines = Vec::new(heap);
     let mut at = file.end;
     let mut line = file.lines.saturating_add(1);
+    // by place: a fault tells the bytes of the whole text
     while at < text.len() {
         lines.push(read_command(text, at, line).map(|read| read.command))?;
         at = line_feed_after(text, at);
@@ -99,13 +100,7 @@ fn read_lines(
 
 // The calls among the lines.
 fn calls_of(heap: Global, lines: &[Result<Call, ReadFault>]) -> Result<Vec<Call>, AllocError> {
-    let mut calls = Vec::new(heap);
-    for line in lines {
-        if let Ok(call) = *line {
-            calls.push(call)?;
-        }
-    }
-    Ok(calls)
+    lines.iter().filter_map(|line| line.ok()).collect(heap)
 }
 
 // Makes all calls on a fresh shift over the plant, and prints the replies and the faults in the order of the lines.

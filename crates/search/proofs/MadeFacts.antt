@@ -34,6 +34,10 @@ use Rattle.search.specs.Life.{counts_of, too_short}
 use Rattle.search.proofs.FaultFacts.{room_in, both_none}
 use Rattle.search.specs.Served.{Made, plain, unless_shift, unless_search, answer, made, Makes}
 
+-- how long a list is from `at` on
+pub length_left : (at : ℕ) (xs : List ℕ) → length (take (length xs - at) (drop at xs)) ≡ length xs - at
+length_left at xs = ap length (between_to_end xs at (length xs) (omega arith)) ∙ length-drop at xs
+
 -- a write to the end of a list, from `at` on
 put_end : (at : ℕ) (old part nodes : List ℕ) → part ≡ onto nodes (take (length old - at) (drop at old)) → put_mid at (length old - at) old part ≡ onto_at at nodes old
 put_end at old part nodes e =

@@ -1,5 +1,4 @@
-use Rattle.std.proofs.Common.{◌≡◌, ◌-◌, ◌≤◌, length, take, drop, Ok, refl, ap, ◌∙◌, arith, length-drop}
-use Rattle.std.proofs.lemmas.Slice.{between_to_end}
+use Rattle.std.proofs.Common.{◌-◌, ◌≤◌, length, Ok, refl, ◌∙◌, arith}
 use Rattle.plant.specs.Closed.{among, shut}
 use Rattle.plant.specs.Shifted.{closed_list}
 use Rattle.search.specs.declared.call.Call.TheVariants.{One}
@@ -10,7 +9,7 @@ use Rattle.search.specs.Life.{too_short}
 use Rattle.search.specs.OneWay.{one_way, one_route}
 use Rattle.search.specs.Served.{answer}
 use Rattle.search.proofs.AnswerFacts.{written}
-use Rattle.search.proofs.MadeFacts.{search_accepts, search_refuses, enough_rows, one_fault, one_replied}
+use Rattle.search.proofs.MadeFacts.{length_left, search_accepts, search_refuses, enough_rows, one_fault, one_replied}
 use Rattle.search.proofs.calling.call_one.Goals as goal
 
 pub returns-clause-makes : goal.returns-clause-makes
@@ -29,8 +28,7 @@ returns-clause-makes g c =
     let part = c.one_way.new.route in
     let a = areas (length rows) (length c.args.areas.now.queue.now) (length back) (length c.args.areas.now.back_queue.now) (length routes) in
     let told = c.in_ok-answer.ensures in
-    let left : length (take (length routes - at) (drop at routes)) ≡ length routes - at = ap length (between_to_end routes at (length routes) (omega arith)) ∙ length-drop at routes in
-    let fault = told.fault ∙ one_fault k f closed s t a (length routes - at) _ left in
+    let fault = told.fault ∙ one_fault k f closed s t a (length routes - at) _ (length_left at routes) in
     let enough : f.nodes ≤ length rows = enough_rows f s t (length rows) _ fault in
     let near = written f.nodes rows' rows (one_way k F s t).rows (omega (arith, enough, c.one_way.auto.rows)) told.searched.rows_are told.searched.rows_past in
     search_accepts at rows rows' back back routes c.requires (search_fault f s t (too_short f a (length routes - at) (One s t))) (answer k F at (One s t) (one_way k F s t).cost (one_route k F s t)) part
@@ -50,7 +48,6 @@ returns-in_err-answer-clause-makes g c =
     let routes = c.args.areas.now.routes.now in
     let a = areas (length rows) (length c.args.areas.now.queue.now) (length back) (length c.args.areas.now.back_queue.now) (length routes) in
     let told = c.in_err-answer.ensures in
-    let left : length (take (length routes - at) (drop at routes)) ≡ length routes - at = ap length (between_to_end routes at (length routes) (omega arith)) ∙ length-drop at routes in
-    let fault = told.fault ∙ one_fault k f closed s t a (length routes - at) _ left in
+    let fault = told.fault ∙ one_fault k f closed s t a (length routes - at) _ (length_left at routes) in
     search_refuses at rows c.one_way.new.rows back back routes c.requires (search_fault f s t (too_short f a (length routes - at) (One s t))) (answer k F at (One s t) (one_way k F s t).cost (one_route k F s t)) c.one_way.new.route
     c.in_err-answer.field-0.0 fault c.from_residual.result c.from_residual.ensures.1 told.searched.0 refl told.searched.2

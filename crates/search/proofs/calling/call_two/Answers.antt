@@ -1,5 +1,4 @@
-use Rattle.std.proofs.Common.{◌≡◌, ◌-◌, ◌≤◌, length, take, drop, Ok, ap, ◌∙◌, arith, length-drop}
-use Rattle.std.proofs.lemmas.Slice.{between_to_end}
+use Rattle.std.proofs.Common.{◌-◌, ◌≤◌, length, Ok, ◌∙◌, arith}
 use Rattle.plant.specs.Closed.{among, shut}
 use Rattle.plant.specs.Shifted.{closed_list}
 use Rattle.search.specs.declared.call.Call.TheVariants.{Two}
@@ -10,7 +9,7 @@ use Rattle.search.specs.Life.{too_short}
 use Rattle.search.specs.TwoWay.{two_way, two_route}
 use Rattle.search.specs.Served.{answer}
 use Rattle.search.proofs.AnswerFacts.{written}
-use Rattle.search.proofs.MadeFacts.{search_accepts, search_refuses, enough_rows, enough_back, two_fault_is, two_replied}
+use Rattle.search.proofs.MadeFacts.{length_left, search_accepts, search_refuses, enough_rows, enough_back, two_fault_is, two_replied}
 use Rattle.search.proofs.calling.call_two.Goals as goal
 
 pub returns-clause-makes : goal.returns-clause-makes
@@ -30,8 +29,7 @@ returns-clause-makes g c =
     let part = c.two_way.new.route in
     let a = areas (length rows) (length c.args.areas.now.queue.now) (length back) (length c.args.areas.now.back_queue.now) (length routes) in
     let told = c.in_ok-answer.ensures in
-    let left : length (take (length routes - at) (drop at routes)) ≡ length routes - at = ap length (between_to_end routes at (length routes) (omega arith)) ∙ length-drop at routes in
-    let fault = told.fault ∙ two_fault_is k f closed s t a (length routes - at) _ left in
+    let fault = told.fault ∙ two_fault_is k f closed s t a (length routes - at) _ (length_left at routes) in
     let enough : f.nodes ≤ length rows = enough_rows f s t (length rows) _ fault in
     let enough' : f.nodes ≤ length back = enough_back f s t (length rows) (length back) _ fault in
     let near = written f.nodes rows' rows (two_way k F s t).near.rows (omega (arith, enough, c.two_way.auto.rows)) told.searched.rows_are told.searched.rows_past in
@@ -53,7 +51,6 @@ returns-in_err-answer-clause-makes g c =
     let routes = c.args.areas.now.routes.now in
     let a = areas (length rows) (length c.args.areas.now.queue.now) (length back) (length c.args.areas.now.back_queue.now) (length routes) in
     let told = c.in_err-answer.ensures in
-    let left : length (take (length routes - at) (drop at routes)) ≡ length routes - at = ap length (between_to_end routes at (length routes) (omega arith)) ∙ length-drop at routes in
-    let fault = told.fault ∙ two_fault_is k f closed s t a (length routes - at) _ left in
+    let fault = told.fault ∙ two_fault_is k f closed s t a (length routes - at) _ (length_left at routes) in
     search_refuses at rows c.two_way.new.rows back c.two_way.new.back routes c.requires (search_fault f s t (too_short f a (length routes - at) (Two s t))) (answer k F at (Two s t) (two_way k F s t).met.cost (two_route k F s t)) c.two_way.new.route
     c.in_err-answer.field-0.0 fault c.from_residual.result c.from_residual.ensures.1 told.searched.0 told.searched.1 told.searched.4
