@@ -1,0 +1,25 @@
+// One side of a search. It stands alone so that specifications can name it.
+ghost use Rattle.std.specs.Prelude.{◌≡◌, length};
+ghost use Rattle.std.proofs.Props.{props};
+ghost use Rattle.plant.specs.Floor.{FloorLaws};
+
+use crate::entry::Entry;
+use crate::row::Row;
+use plant::plant::Plant;
+use queue::{Queue, Ranked};
+
+// The side that goes from `source` towards `target`: a row of each node, the labelled nodes in a queue, and the last key that was picked.
+#[derive(Drop)]
+pub(crate) struct Side<'p, 'r, 's, 'q, P: Plant>
+where
+    Entry<P::Cost>: Ranked,
+{
+    pub plant: &'p P,
+    pub source: u32,
+    pub target: u32,
+    pub last: P::Cost,
+    pub rows: &'r mut [Row<P::Cost>],
+    pub queue: &'s mut Queue<'q, Entry<P::Cost>>,
+    ghost laws: { FloorLaws P.Cost.CostKind.kind (P.Plant.floor plant.now) } by { Prim.hlevel props },
+    ghost long: { length rows.now ≡ (P.Plant.floor plant.now).nodes },
+}
