@@ -31,7 +31,6 @@ impl<'p, 'r, 's, 'q, P: Plant> Side<'p, 'r, 's, 'q, P> {
         ensures plant { result.plant.now ≡ plant.now }
         ensures source { result.source ≡ source }
         ensures target { result.target ≡ target }
-        ensures last { result.last ≡ P.Cost.CostKind.kind.zero }
         ensures rows { result.rows.now ≡ start_rows P.Cost.CostKind.kind (P.Plant.floor plant.now) source }
         ensures named { result.rows.ghost_name ≡ rows.entry.ghost_name }
         ensures ready { IsReady result }
@@ -53,7 +52,6 @@ impl<'p, 'r, 's, 'q, P: Plant> Side<'p, 'r, 's, 'q, P> {
             plant,
             source,
             target,
-            last: zero,
             rows,
             queue,
         }

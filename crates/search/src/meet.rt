@@ -3,8 +3,8 @@ ghost use Rattle.std.specs.Prelude.{◌≡◌};
 ghost use Rattle.search.specs.Meets.{met_at};
 ghost use Rattle.search.specs.TwoWay.{meet};
 
-use crate::meeting::Meeting;
 use crate::meeter::Meeter;
+use crate::meeting::Meeting;
 use crate::watch::Watch;
 use cost::kind::CostKind;
 

@@ -77,8 +77,7 @@ pub(crate) fn run<P: Plant>(
 {
     let mut queue = Queue::new(slots);
     let mut side = Side::begin(plant, start, goal, rows, &mut queue);
-    let ending = scan_all(&mut side);
-    ending
+    scan_all(&mut side)
 }
 
 // The search over as many rows as there are nodes.

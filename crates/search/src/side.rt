@@ -8,7 +8,7 @@ use crate::row::Row;
 use plant::plant::Plant;
 use queue::{Queue, Ranked};
 
-// The side that goes from `source` towards `target`: a row of each node, the labelled nodes in a queue, and the last key that was picked.
+// The side that goes from `source` towards `target`: a row of each node, and the labelled nodes in a queue.
 #[derive(Drop)]
 pub(crate) struct Side<'p, 'r, 's, 'q, P: Plant>
 where
@@ -17,7 +17,6 @@ where
     pub plant: &'p P,
     pub source: u32,
     pub target: u32,
-    pub last: P::Cost,
     pub rows: &'r mut [Row<P::Cost>],
     pub queue: &'s mut Queue<'q, Entry<P::Cost>>,
     ghost laws: { FloorLaws P.Cost.CostKind.kind (P.Plant.floor plant.now) } by { Prim.hlevel props },

@@ -1,5 +1,5 @@
 // One turn of one side of a two-way search: its first node is settled.
-ghost use Rattle.std.specs.Prelude.{◌≡◌, ◌<◌, MatchResult};
+ghost use Rattle.std.specs.Prelude.{◌≡◌, ◌<◌, MatchOption};
 ghost use Rattle.search.specs.Sides.{floor_of, Facing, IsReady, IsTaken, Kept};
 ghost use Rattle.search.specs.Turns.{Settles, Stays, Gone};
 
@@ -13,23 +13,30 @@ use cost::kind::CostKind;
 use plant::plant::Plant;
 use queue::Ranked;
 
+// A turn that was taken: the key of its node, and the best route after it.
+#[derive(Clone, Copy)]
+pub struct Went<C> {
+    pub last: C,
+    pub met: Meeting<C>,
+}
+
 impl<P: Plant> Side<'_, '_, '_, '_, P> {
-    // Settles the node of `e`, and answers with the best route after it.
+    // Settles the node of `e`, and answers with the best route after it. The other side's last key was `last`.
     // The node is followed unless the other side has scanned it, or no route over it can better the best.
     fn settle<Q: Plant<Cost = P::Cost>>(
         &mut self,
         e: Entry<P::Cost>,
         other: &Side<Q>,
+        last: P::Cost,
         met: Meeting<P::Cost>,
     ) -> Meeting<P::Cost>
         requires facing { Facing self.old other.now }
         requires met { met.node < (floor_of self.old).nodes }
         requires taken { IsTaken self.old e }
-        ensures settles { Settles P.Cost.CostKind.kind (floor_of self.old) self.old.source self.old.rows.now self.new.rows.now other.now.rows.now other.now.last e met result }
+        ensures settles { Settles P.Cost.CostKind.kind (floor_of self.old) self.old.source self.old.rows.now self.new.rows.now other.now.rows.now last e met result }
         ensures met { result.node < (floor_of self.old).nodes }
         ensures ready { IsReady self.new }
         ensures kept { Kept self.old self.new }
-        ensures last { self.new.last ≡ self.old.last }
         ensures named { self.new.rows.ghost_name ≡ self.old.rows.ghost_name }
     {
         let others = &*other.rows;
@@ -38,7 +45,7 @@ impl<P: Plant> Side<'_, '_, '_, '_, P> {
             mark_as(self.rows, e.node, State::Scanned);
             return met;
         }
-        let rest = other.last.rest(self.plant.bound(self.source, e.node));
+        let rest = last.rest(self.plant.bound(self.source, e.node));
         if met.cost.at_most(e.label.join(rest)) {
             mark_as(self.rows, e.node, State::Dropped);
             return met;
@@ -49,26 +56,27 @@ impl<P: Plant> Side<'_, '_, '_, '_, P> {
         meeter.met
     }
 
-    // Takes the side's turn, and answers with the best route after it; or with the best of all, where no node's key is below it.
+    // Takes the side's turn, unless it has no node whose key is below the best route.
     pub fn take_turn<Q: Plant<Cost = P::Cost>>(
         &mut self,
         other: &Side<Q>,
+        last: P::Cost,
         met: Meeting<P::Cost>,
-    ) -> Result<Meeting<P::Cost>, Meeting<P::Cost>>
+    ) -> Option<Went<P::Cost>>
         requires facing { Facing self.old other.now }
         requires met { met.node < (floor_of self.old).nodes }
         requires ready { IsReady self.old }
-        ensures turn { MatchResult result (λ m. Gone P.Cost.CostKind.kind (floor_of self.old) self.old.source self.old.target self.old.rows.now self.new.rows.now other.now.rows.now other.now.last met self.new.last m self.new.queue.now) (λ m. (m ≡ met) × (self.new.rows.now ≡ self.old.rows.now) × Stays P.Cost.CostKind.kind (floor_of self.old) self.old.source self.old.target self.old.rows.now other.now.rows.now other.now.last met) }
+        ensures turn { MatchOption result ((self.new.rows.now ≡ self.old.rows.now) × Stays P.Cost.CostKind.kind (floor_of self.old) self.old.source self.old.target self.old.rows.now other.now.rows.now last met) (λ w. Gone P.Cost.CostKind.kind (floor_of self.old) self.old.source self.old.target self.old.rows.now self.new.rows.now other.now.rows.now last met w.last w.met self.new.queue.now) }
         ensures kept { Kept self.old self.new }
         ensures named { self.new.rows.ghost_name ≡ self.old.rows.ghost_name }
     {
         let Some(e) = self.next_live() else {
-            return Err(met);
+            return None;
         };
         if met.cost.at_most(e.key) {
-            return Err(met);
+            return None;
         }
-        self.last = e.key;
-        Ok(self.settle(e, other, met))
+        let met = self.settle(e, other, last, met);
+        Some(Went { last: e.key, met })
     }
 }

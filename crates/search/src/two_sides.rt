@@ -56,17 +56,20 @@ pub(crate) fn run_both<P: Plant>(
     let mut near = Side::begin(plant, start, goal, rows, &mut queue);
     let mut far = Side::begin(&turned, goal, start, back, &mut back_queue);
     let mut met = first_meeting(start, goal);
+    let mut back_last = P::Cost::zero();
     // two turns for each node, and one more, are enough
     for _ in 0..plant.node_count() {
-        let ours = match near.take_turn(&far, met) {
-            Ok(after) => after,
-            Err(best) => return best,
+        let Some(ours) = near.take_turn(&far, back_last, met) else {
+            return met;
         };
-        met = match far.take_turn(&near, ours) {
-            Ok(after) => after,
-            Err(best) => return best,
+        let Some(theirs) = far.take_turn(&near, ours.last, ours.met) else {
+            return ours.met;
         };
+        back_last = theirs.last;
+        met = theirs.met;
     }
-    let (Ok(best) | Err(best)) = near.take_turn(&far, met);
-    best
+    match near.take_turn(&far, back_last, met) {
+        Some(ours) => ours.met,
+        None => met,
+    }
 }

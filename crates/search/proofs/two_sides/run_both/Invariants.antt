@@ -15,5 +15,7 @@ invariant-loop g l =
     × Facing l.near l.far
     × (l.near.rows.ghost_name ≡ l.initial.near.rows.ghost_name)
     × (l.far.rows.ghost_name ≡ l.initial.far.rows.ghost_name)
-    × (two_from g.P.Cost.CostKind.kind (g.P.Plant.floor l.plant) l.start l.goal (suc (2 * (g.P.Plant.floor l.plant).nodes) - 2 * l.counter) (both_of l.near.rows.now l.near.last l.far.rows.now l.far.last l.met)
-    ≡ two_way g.P.Cost.CostKind.kind (g.P.Plant.floor l.plant) l.start l.goal)
+    × ((x : g.row.P-Cost.Denot) × (
+    two_from g.P.Cost.CostKind.kind (g.P.Plant.floor l.plant) l.start l.goal (suc (2 * (g.P.Plant.floor l.plant).nodes) - 2 * l.counter) (both_of l.near.rows.now x l.far.rows.now l.back_last l.met)
+    ≡ two_way g.P.Cost.CostKind.kind (g.P.Plant.floor l.plant) l.start l.goal
+    ))

@@ -40,8 +40,7 @@ loop-j-preserved g c =
       omega (arith, does.count, l.invariant.3),
       does.room ∙ l.invariant.4,
       record { plant = does.kept.plant ∙ l.invariant.5.plant; source = does.kept.source ∙ l.invariant.5.source; target = does.kept.target ∙ l.invariant.5.target },
-      does.last ∙ l.invariant.6,
-      does.named ∙ l.invariant.7,
+      does.named ∙ l.invariant.6,
     )
 
 pub returns-in_default-clause-heard : goal.returns-in_default-clause-heard

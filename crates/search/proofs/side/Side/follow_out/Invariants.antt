@@ -13,5 +13,4 @@ invariant-loop-j g l =
     × (count l.self.queue.now ≤ count l.initial.self.queue.now + l.j)
     × (room l.self.queue.now ≡ room l.initial.self.queue.now)
     × Kept l.initial.self l.self
-    × (l.self.last ≡ l.initial.self.last)
     × (l.self.rows.ghost_name ≡ l.initial.self.rows.ghost_name)

@@ -21,7 +21,7 @@ returns-then-is_scanned-clause-settles g c =
     let in' : e.node < length others = omega (arith, other.long, ap (λ (x : Floor g.row.P-Cost.Denot). x.nodes) c.requires.facing.floor, c.requires.taken.within) in
     let row : row_at k others e.node ≡ c.index-others-e.result = row_read k others e.node c.index-others-e.result in' c.index-others-e.is in
     let there : is_scanned (row_at k others e.node).state ≡ true = ap (λ (r : Row g.row.P-Cost.Denot). is_scanned r.state) row ∙ sym c.is_scanned.ensures ∙ c.if-is_scanned.true in
-    skipped k f side.source side.rows.now c.mark_as.new.rows others other.last e c.args.met there c.mark_as.ensures
+    skipped k f side.source side.rows.now c.mark_as.new.rows others c.args.last e c.args.met there c.mark_as.ensures
 
 pub returns-then-is_scanned-clause-ready : goal.returns-then-is_scanned-clause-ready
 returns-then-is_scanned-clause-ready g c =
@@ -39,9 +39,9 @@ returns-then-at_most-clause-settles g c =
     let in' : e.node < length others = omega (arith, other.long, ap (λ (x : Floor g.row.P-Cost.Denot). x.nodes) c.requires.facing.floor, c.requires.taken.within) in
     let row : row_at k others e.node ≡ c.index-others-e.result = row_read k others e.node c.index-others-e.result in' c.index-others-e.is in
     let apart : is_scanned (row_at k others e.node).state ≡ false = ap (λ (r : Row g.row.P-Cost.Denot). is_scanned r.state) row ∙ sym c.is_scanned.ensures ∙ c.if-is_scanned.false in
-    let is : c.join.result ≡ k.join e.label (k.rest other.last (f.bound side.source e.node)) = c.join.ensures ∙ ap (k.join e.label) (c.rest-rest.ensures ∙ ap (k.rest other.last) c.bound.ensures) in
+    let is : c.join.result ≡ k.join e.label (k.rest c.args.last (f.bound side.source e.node)) = c.join.ensures ∙ ap (k.join e.label) (c.rest-rest.ensures ∙ ap (k.rest c.args.last) c.bound.ensures) in
     let far : k.at_most c.args.met.cost c.join.result ≡ true = sym c.at_most.ensures ∙ c.if-at_most.true in
-    dropped k f side.source side.rows.now c.mark_as-then-at_most.new.rows others other.last e c.args.met apart c.join.result is far c.mark_as-then-at_most.ensures
+    dropped k f side.source side.rows.now c.mark_as-then-at_most.new.rows others c.args.last e c.args.met apart c.join.result is far c.mark_as-then-at_most.ensures
 
 pub returns-then-at_most-clause-ready : goal.returns-then-at_most-clause-ready
 returns-then-at_most-clause-ready g c =
@@ -64,13 +64,13 @@ returns-clause-settles g c =
     let in' : e.node < length others = omega (arith, other.long, ap (λ (x : Floor g.row.P-Cost.Denot). x.nodes) c.requires.facing.floor, c.requires.taken.within) in
     let row : row_at k others e.node ≡ c.index-others-e.result = row_read k others e.node c.index-others-e.result in' c.index-others-e.is in
     let apart : is_scanned (row_at k others e.node).state ≡ false = ap (λ (r : Row g.row.P-Cost.Denot). is_scanned r.state) row ∙ sym c.is_scanned.ensures ∙ c.if-is_scanned.false in
-    let is : c.join.result ≡ k.join e.label (k.rest other.last (f.bound side.source e.node)) = c.join.ensures ∙ ap (k.join e.label) (c.rest-rest.ensures ∙ ap (k.rest other.last) c.bound.ensures) in
+    let is : c.join.result ≡ k.join e.label (k.rest c.args.last (f.bound side.source e.node)) = c.join.ensures ∙ ap (k.join e.label) (c.rest-rest.ensures ∙ ap (k.rest c.args.last) c.bound.ensures) in
     let near : k.at_most c.args.met.cost c.join.result ≡ false = sym c.at_most.ensures ∙ c.if-at_most.false in
     let marked = c.mark_as-2.new.rows in
     let rows' = c.follow_out.new.self.rows.now in
     let met' = c.follow_out.new.watch.met in
     let spreads : spread rows' met' ≡ follow_all_meet k f others e.label (spread marked c.args.met) (out_of f e.node) = meets k f e.label (out_of f e.node) marked rows' _ c.follow_out.new.watch c.follow_out.ensures.heard in
-    followed k f side.source side.rows.now rows' others other.last e c.args.met apart c.join.result is near marked met' c.mark_as-2.ensures spreads
+    followed k f side.source side.rows.now rows' others c.args.last e c.args.met apart c.join.result is near marked met' c.mark_as-2.ensures spreads
 
 pub returns-clause-met : goal.returns-clause-met
 returns-clause-met g c =
