@@ -14,6 +14,7 @@ mod meet;
 mod meeter;
 pub mod meeting;
 pub mod one_way;
+mod out_lanes;
 pub mod reply;
 mod route_both;
 pub mod row;
