@@ -6,6 +6,9 @@ pub mod TwoWay
 pub mod Survey
 pub mod Answer
 pub mod Ties
+pub mod Heard
+pub mod Meets
+pub mod Sides
 pub mod Turns
 pub mod Told
 pub mod Faults

@@ -1,24 +1,22 @@
 // The one-way search: A* from the start, step by step until the goal is the next node, or none is left.
 ghost use Rattle.std.specs.Prelude.{◌≡◌, suc, ◌+◌, ◌^◌, ◌<◌, ◌≤◌, length, take, IfOk, MatchResult};
-ghost use Rattle.queue.specs.Held.{count, room};
 ghost use Rattle.search.specs.Steps.{count_scanned};
 ghost use Rattle.search.specs.OneWay.{one_from, one_way};
-ghost use Rattle.search.specs.Ties.{Front, left_of};
+ghost use Rattle.search.specs.Sides.{floor_of, IsReady};
 ghost use Rattle.search.specs.Answer.{Right};
 ghost use Rattle.search.specs.Lists.{onto};
 ghost use Rattle.search.specs.Searched.{fault_of, one_answer, one_nodes, cost_of, node_count_of, Searched};
 ghost use Rattle.std.specs.Result.{result_err};
 
 use crate::answer::{Answer, Route};
-use crate::begin::begin;
 use crate::check::{check_node, check_queue, check_room};
 use crate::entry::Entry;
 use crate::fault::SearchFault;
-use crate::follow::follow_out;
-use crate::live::next_live;
 use crate::row::{Row, State};
 use crate::rows::mark_as;
+use crate::side::Side;
 use crate::walk_back::write_route;
+use crate::watch::Nobody;
 use cost::kind::CostKind;
 use plant::plant::Plant;
 use queue::Queue;
@@ -29,38 +27,29 @@ pub(crate) struct Ending<C> {
     pub scanned: u32,
 }
 
-// Scans the nodes one after another, until the goal is the next, or none is left.
-fn scan_all<P: Plant>(
-    plant: &P,
-    goal: u32,
-    rows: &mut [Row<P::Cost>],
-    queue: &mut Queue<Entry<P::Cost>>,
-) -> Ending<P::Cost>
-    requires rows { length rows.old ≡ (P.Plant.floor plant.now).nodes }
-    requires front { Front P.Cost.CostKind.kind (P.Plant.floor plant.now) goal rows.old queue.old }
-    requires room { count queue.old + left_of P.Cost.CostKind.kind rows.old (P.Plant.floor plant.now).lanes ≤ room queue.old }
-    requires few { length rows.old < 2 ^ 32 }
-    requires fresh { count_scanned rows.old ≡ 0 }
-    ensures rows { rows.new ≡ (one_from P.Cost.CostKind.kind (P.Plant.floor plant.now) goal (suc (P.Plant.floor plant.now).nodes) rows.old).rows }
-    ensures cost { result.cost ≡ (one_from P.Cost.CostKind.kind (P.Plant.floor plant.now) goal (suc (P.Plant.floor plant.now).nodes) rows.old).cost }
-    ensures scanned { result.scanned ≡ count_scanned rows.new }
+// Scans the nodes one after another, until the target is the next, or none is left.
+fn scan_all<P: Plant>(side: &mut Side<P>) -> Ending<P::Cost>
+    requires ready { IsReady side.old }
+    requires few { (floor_of side.old).nodes < 2 ^ 32 }
+    requires fresh { count_scanned side.old.rows.now ≡ 0 }
+    ensures rows { side.new.rows.now ≡ (one_from P.Cost.CostKind.kind (floor_of side.old) side.old.target (suc (floor_of side.old).nodes) side.old.rows.now).rows }
+    ensures cost { result.cost ≡ (one_from P.Cost.CostKind.kind (floor_of side.old) side.old.target (suc (floor_of side.old).nodes) side.old.rows.now).cost }
+    ensures scanned { result.scanned ≡ count_scanned side.new.rows.now }
+    ensures named { side.new.rows.ghost_name ≡ side.old.rows.ghost_name }
 {
     let mut scanned = 0;
-    while let Some(e) = next_live(rows, queue) {
+    while let Some(e) = side.next_live() {
         if P::Cost::beyond().at_most(e.key) {
-            return Ending {
-                cost: P::Cost::beyond(),
-                scanned,
-            };
+            break;
         }
-        if e.node == goal {
+        if e.node == side.target {
             return Ending {
                 cost: e.label,
                 scanned,
             };
         }
-        mark_as(rows, e.node, State::Scanned);
-        follow_out(plant, goal, e.label, e.node, rows, queue);
+        mark_as(side.rows, e.node, State::Scanned);
+        side.follow_out(e.label, e.node, &mut Nobody);
         scanned += 1;
     }
     Ending {
@@ -86,8 +75,8 @@ pub(crate) fn run<P: Plant>(
     ensures scanned { result.scanned ≡ count_scanned rows.new }
 {
     let mut queue = Queue::new(slots);
-    begin(plant, start, goal, rows, &mut queue);
-    scan_all(plant, goal, rows, &mut queue)
+    let mut side = Side::begin(plant, start, goal, rows, &mut queue);
+    scan_all(&mut side)
 }
 
 // The search over as many rows as there are nodes.

@@ -1,4 +1,4 @@
-use Rattle.std.proofs.Common.{◌≡◌, ℕ, ◌+◌, ◌<◌, ◌≤◌, List, [], ◌∷◌, length, take, set, sym, ap, ◌∙◌, subst, arith, rules}
+use Rattle.std.proofs.Common.{◌≡◌, ℕ, ◌+◌, ◌<◌, ◌≤◌, List, [], ◌∷◌, length, take, set, sym, ap, ◌∙◌, subst, arith}
 use Rattle.std.specs.List.Sorted.{IsPermutation}
 use Rattle.queue.specs.Held.{held, count, room}
 use Rattle.queue.proofs.Uses.{took}
@@ -11,20 +11,15 @@ use Rattle.search.specs.Ties.{Ready, left_of, entry_of}
 use Rattle.search.proofs.RowFacts.{start_length}
 use Rattle.search.proofs.StartFacts.{first_row, start_tied}
 use Rattle.search.proofs.TieFacts.{left_le}
-use Rattle.search.proofs.begin.begin.Goals as goal
+use Rattle.search.proofs.side.Side.begin.Goals as goal
 
-pub offset_bounds-rows-start : goal.offset_bounds-rows-start
-offset_bounds-rows-start g c =
-    let h : c.args.start < length c.args.rows.now = omega (arith, c.requires.start, c.requires.rows) in
-    search rules
-
-pub returns : goal.returns
-returns g c =
+pub returns-clause-ready : goal.returns-clause-ready
+returns-clause-ready g c =
     let k = g.P.Cost.CostKind.kind in
     let laws = g.met.P.Cost.CostKind.lawful in
     let f = g.P.Plant.floor c.args.plant.now in
-    let start = c.args.start in
-    let goal = c.args.goal in
+    let start = c.args.source in
+    let goal = c.args.target in
     let q = c.args.queue.now in
     let q' = c.push.new.self in
     let p = c.push.ensures in
@@ -39,11 +34,8 @@ returns g c =
     let put : IsPermutation (entry_of k f goal (first_row k) start ∷ []) (held q') =
     subst (λ (es : List (Entry g.row.P-Cost.Denot)). IsPermutation es (held q')) (λ i. record { key = key i; label = z i; node = start } ∷ none i) (took _ _ _ _ _ _ p.test free p.held) in
     let left : left_of k (start_rows k f start) f.lanes ≤ length f.lanes = left_le k (start_rows k f start) f.lanes in
-    record {
-      rows = begins;
-      ready = subst (λ (xs : List (Row g.row.P-Cost.Denot)). Ready k f goal xs q') (sym begins) (record {
-        long = start_length k f start c.requires.start;
-        front = record { tied = start_tied k laws f start goal c.requires.start (held q') put };
-        fits = omega (arith, left, more, c.requires.empty, p.room, c.requires.room);
-      });
-    }
+    subst (λ (xs : List (Row g.row.P-Cost.Denot)). Ready k f goal xs q') (sym begins) (record {
+      long = start_length k f start c.requires.source;
+      front = record { tied = start_tied k laws f start goal c.requires.source (held q') put };
+      fits = omega (arith, left, more, c.requires.empty, p.room, c.requires.room);
+    })
