@@ -42,6 +42,7 @@ fn call_one<P: Plant>(
 }
 
 // Searches from both ends, and writes the route from `at` on.
+// Beside `call_one`: they share no more than the last lines, and a closure for the search would be longer than those.
 fn call_two<P: Plant>(
     shift: &Shift<P>,
     start: u32,

@@ -10,6 +10,7 @@ impl From<SearchFault> for Refusal {
     ghost from_gives = { λ fault r. r ≡ refusal_of fault };
 
     fn from(fault: SearchFault) -> Refusal {
+        // the numbers are those of `Refusal`, which the printed form fixes
         let (number, first) = match fault {
             SearchFault::Start(v) => (7, v as usize),
             SearchFault::Goal(v) => (7, v as usize),

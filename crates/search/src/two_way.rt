@@ -20,6 +20,7 @@ use cost::kind::CostKind;
 use plant::plant::Plant;
 
 // The search over as many rows of each side as there are nodes.
+// Beside `find` of the one-way search: the two run, count and write by other functions, and share the test of beyond alone.
 fn find_both<P: Plant>(
     plant: &P,
     start: u32,
