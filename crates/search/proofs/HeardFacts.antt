@@ -1,8 +1,8 @@
 -- Following lanes with a watcher, as the code of a side does it, and what it comes to for each watcher.
-use Rattle.std.proofs.Common.{◌≡◌, ℕ, zero, suc, ◌+◌, ◌<◌, ◌≤◌, Bool, true, false, cond, List, [], ◌∷◌, length, drop, set, Some, None, Option, sym, refl, ap, ◌∙◌, subst, arith}
+use Rattle.std.proofs.Common.{◌≡◌, ℕ, ◌+◌, ◌<◌, ◌≤◌, Bool, true, false, cond, List, [], ◌∷◌, length, drop, set, Some, None, Option, sym, refl, ap, ◌∙◌, subst, arith}
 use Rattle.std.specs.List.{slice_get}
 use Rattle.std.proofs.lemmas.List.{drop_all}
-use Rattle.std.proofs.lemmas.Bool.{cond-true, cond-false, cond_both, and_right, not_from_true}
+use Rattle.std.proofs.lemmas.Bool.{cond-false, cond_both, and_right, not_from_true}
 use Rattle.cost.specs.Kind.{Kind, Laws}
 use Rattle.plant.specs.declared.lane.Lane.{Lane}
 use Rattle.plant.specs.Floor.{Floor, FloorLaws}
@@ -31,25 +31,6 @@ module _ {C W : Type 0} (tell : W → ℕ → C → W) (k : Kind C) (f : Floor C
   is_step : (i : ℕ) (rows : List (Row C)) (watch : W) → follow_heard tell k f g (heard rows watch) i ≡ step i rows watch (slice_get f.lanes i)
   unfolding step
   is_step i rows watch = refl
-
-  module _ (rows rows' : List (Row C)) (i : ℕ) (l : Lane C) (there : slice_get f.lanes i ≡ Some l) (watch : W) (c : C) (same : c ≡ k.join g l.cost) (wrote : rows' ≡ set rows l.head (relabel k c i (row_at k rows l.head))) where
-    at_lane : step i rows watch (slice_get f.lanes i) ≡ heard (set rows l.head (relabel k c i (row_at k rows l.head))) (cond (is_relabelled k c (row_at k rows l.head)) (tell watch l.head c) watch)
-    unfolding step
-    at_lane =
-        ap (step i rows watch) there
-        ∙ ap (λ (x : C). heard (set rows l.head (relabel k x i (row_at k rows l.head))) (cond (is_relabelled k x (row_at k rows l.head)) (tell watch l.head x) watch)) (sym same)
-
-    pub told_here : (m : W) → is_relabelled k c (row_at k rows l.head) ≡ true → m ≡ tell watch l.head c → heard rows' m ≡ follow_heard tell k f g (heard rows watch) i
-    told_here m t e =
-        (λ j. heard (wrote j) (e j))
-        ∙ ap (λ (x : W). heard (set rows l.head (relabel k c i (row_at k rows l.head))) x) (sym (cond-true (is_relabelled k c (row_at k rows l.head)) (tell watch l.head c) watch t))
-        ∙ sym at_lane ∙ sym (is_step i rows watch)
-
-    pub not_told : is_relabelled k c (row_at k rows l.head) ≡ false → heard rows' watch ≡ follow_heard tell k f g (heard rows watch) i
-    not_told t =
-        (λ j. heard (wrote j) watch)
-        ∙ ap (λ (x : W). heard (set rows l.head (relabel k c i (row_at k rows l.head))) x) (sym (cond-false (is_relabelled k c (row_at k rows l.head)) (tell watch l.head c) watch t))
-        ∙ sym at_lane ∙ sym (is_step i rows watch)
 
   -- no lane is followed where there is none
   pub heard_none : Laws k → (rows : List (Row C)) (watch : W) (i : ℕ) → 0 < length rows → slice_get f.lanes i ≡ None → heard rows watch ≡ follow_heard tell k f g (heard rows watch) i

@@ -66,12 +66,6 @@ module _ {C : Type 0} (k : Kind C) (laws : Laws k) (f : Floor C) (fl : FloorLaws
 
   module _ (marked : List (Row C)) (is : marked ≡ mark k Scanned rows u) where
     -- before its lanes are followed
-    pub out_long : length marked ≡ f.nodes
-    out_long = ap length is ∙ marked_long Scanned
-
-    pub out_front : Front k f target marked q
-    out_front = (skipped_ready marked is).front
-
     pub out_room : count q + length (out_of f u) ≤ room q
     out_room = omega (arith, scanned_left, t.fits)
 

@@ -1,5 +1,5 @@
 -- What is said of one side of a search: its floor, its front, and what each step of it keeps.
-use Rattle.std.specs.Prelude.{◌≡◌, ℕ}
+use Rattle.std.specs.Prelude.{◌≡◌}
 use Rattle.cost.specs.declared.kind.CostKind.{Ghosts as Costs}
 use Rattle.plant.specs.declared.plant.Plant.{Ghosts as Plants}
 use Rattle.plant.specs.Floor.{Floor, turned}

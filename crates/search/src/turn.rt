@@ -12,7 +12,8 @@ use crate::side::Side;
 use cost::kind::CostKind;
 use plant::plant::Plant;
 
-// A turn that was taken: the key of its node, and the best route after it.
+// A turn that was taken: the key of its node, and the best route after it. A side cannot hold its own last key:
+// a struct that lends rows and has a field of a parameter's type tells its caller nothing of the rows.
 #[derive(Clone, Copy)]
 pub struct Went<C> {
     pub last: C,
@@ -69,9 +70,7 @@ impl<P: Plant> Side<'_, '_, '_, '_, P> {
         ensures kept { Kept self.old self.new }
         ensures named { self.new.rows.ghost_name ≡ self.old.rows.ghost_name }
     {
-        let Some(e) = self.next_live() else {
-            return None;
-        };
+        let e = self.next_live()?;
         if met.cost.at_most(e.key) {
             return None;
         }

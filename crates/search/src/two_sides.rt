@@ -55,7 +55,7 @@ pub(crate) fn run_both<P: Plant>(
     let mut far = Side::begin(&turned, goal, start, back, &mut back_queue);
     let mut met = first_meeting(start, goal);
     let mut back_last = P::Cost::zero();
-    // two turns for each node, and one more, are enough
+    // a bound and no index: two turns for each node, and one more, are enough
     for _ in 0..plant.node_count() {
         let Some(ours) = near.take_turn(&far, back_last, met) else {
             return met;

@@ -1,5 +1,4 @@
 use Rattle.std.proofs.Common.{◌≡◌, suc, ◌-◌, ◌*◌, ◌<◌}
-use Rattle.plant.specs.Floor.{turned}
 use Rattle.search.specs.Sides.{floor_of, Facing, IsReady}
 use Rattle.search.specs.TwoWay.{both_of, two_from, two_way}
 use Rattle.search.proofs.two_sides.run_both.Given as goal

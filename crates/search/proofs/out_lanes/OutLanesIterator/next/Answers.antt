@@ -1,4 +1,4 @@
-use Rattle.std.proofs.Common.{◌+◌, ◌^◌, ◌<◌, ◌≤◌, length, sym, arith, rules}
+use Rattle.std.proofs.Common.{◌+◌, ◌^◌, ◌<◌, length, sym, arith, rules}
 use Rattle.plant.specs.Floor.{out_of}
 use Rattle.search.proofs.Outs.{out_of_le}
 use Rattle.search.proofs.RowFacts.{nth_within}

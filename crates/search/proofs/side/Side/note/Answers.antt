@@ -1,6 +1,6 @@
-use Rattle.std.proofs.Common.{◌≡◌, ◌+◌, ◌<◌, true, false, ◌∷◌, length, set, get_or, sym, refl, ap, ◌∙◌, subst, arith}
+use Rattle.std.proofs.Common.{◌≡◌, ◌<◌, true, false, ◌∷◌, length, set, get_or, sym, refl, ap, ◌∙◌, subst, arith}
 use Rattle.std.specs.List.Sorted.{IsPermutation}
-use Rattle.queue.specs.Held.{held, count}
+use Rattle.queue.specs.Held.{held}
 use Rattle.queue.proofs.Uses.{took}
 use Rattle.std.proofs.lemmas.Bool.{cond-false}
 use Rattle.search.specs.declared.row.Row.{Row}
@@ -9,7 +9,7 @@ use Rattle.search.specs.Rows.{is_open, row_at}
 use Rattle.search.specs.Steps.{is_relabelled, relabel}
 use Rattle.search.specs.Ties.{entry_of}
 use Rattle.search.specs.Order.{Le, not_le}
-use Rattle.search.proofs.TieFacts.{row_read, set_kept, not_closed, not_dearer, yes_new, relabel_closed, relabel_dear, relabel_new, tied_put}
+use Rattle.search.proofs.TieFacts.{row_read, set_kept, not_closed, not_dearer, yes_new, relabel_new, tied_put}
 use Rattle.search.proofs.side.Side.note.Given.{Over}
 use Rattle.search.proofs.side.Side.note.Goals as goal
 use Rattle.search.proofs.side.Side.note.Goals.{then-not-is_open-via-then-not-is_open, then-not-is_open-via-else-not-is_open+then-at_most}

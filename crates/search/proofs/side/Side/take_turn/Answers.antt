@@ -1,4 +1,4 @@
-use Rattle.std.proofs.Common.{◌≡◌, true, false, sym, refl, ap, ◌∙◌, subst, arith}
+use Rattle.std.proofs.Common.{◌≡◌, true, false, sym, refl, ap, ◌∙◌, arith}
 use Rattle.plant.specs.Floor.{Floor, turned}
 use Rattle.queue.specs.Held.{held}
 use Rattle.search.specs.Sides.{floor_of}
@@ -9,26 +9,25 @@ use Rattle.search.proofs.TieFacts.{tied_scan}
 use Rattle.search.proofs.TwoSteps.{two_ends, two_stops, two_turns}
 use Rattle.search.proofs.side.Side.take_turn.Goals as goal
 
-pub returns-in_default-clause-turn : goal.returns-in_default-clause-turn
-returns-in_default-clause-turn g c =
+pub returns-in_err-e-clause-turn : goal.returns-in_err-e-clause-turn
+returns-in_err-e-clause-turn g c =
     let k = g.P.Cost.CostKind.kind in
     let side = c.args.self.now in
-    let other = c.args.other.now in (
-      c.next_live.ensures.rows,
-      λ n x. two_ends k (floor_of side) side.source side.target n (both_of side.rows.now x other.rows.now c.args.last c.args.met)
-          (none_able k g.met.P.Cost.CostKind.lawful (floor_of side) side.target side.rows.now (held side.queue.now) c.requires.ready.front.tied (λ _. true) c.in_default.ensures.next),
-    )
+    let other = c.args.other.now in
+    let none = none_able k g.met.P.Cost.CostKind.lawful (floor_of side) side.target side.rows.now (held side.queue.now) c.requires.ready.front.tied (λ _. true) c.in_err-e.ensures.next in
+    rw c.from_residual.ensures
+    (c.next_live.ensures.rows, λ n x. two_ends k (floor_of side) side.source side.target n (both_of side.rows.now x other.rows.now c.args.last c.args.met) none)
 
 pub returns-then-at_most-clause-turn : goal.returns-then-at_most-clause-turn
 returns-then-at_most-clause-turn g c =
     let k = g.P.Cost.CostKind.kind in
     let side = c.args.self.now in
     let other = c.args.other.now in
-    let e = c.in-Some.e in
+    let e = c.in_ok-e.e in
     let stop : k.at_most c.args.met.cost e.key ≡ true = sym c.at_most.ensures ∙ c.if-at_most.true in (
       c.next_live.ensures.rows,
       λ n x. two_stops k (floor_of side) side.source side.target n (both_of side.rows.now x other.rows.now c.args.last c.args.met) e
-          (some_able k g.met.P.Cost.CostKind.lawful (floor_of side) side.target side.rows.now (held side.queue.now) c.requires.ready.front.tied (held c.next_live.new.self.queue.now) e c.in-Some.ensures.next (λ _. true) refl) stop,
+          (some_able k g.met.P.Cost.CostKind.lawful (floor_of side) side.target side.rows.now (held side.queue.now) c.requires.ready.front.tied (held c.next_live.new.self.queue.now) e c.in_ok-e.ensures.next (λ _. true) refl) stop,
     )
 
 pub settle-met-requires-clause-taken : goal.settle-met-requires-clause-taken
@@ -39,8 +38,8 @@ settle-met-requires-clause-taken g c =
     let f = floor_of side in
     let next = c.next_live.new.self in
     let tied = c.requires.ready.front.tied in
-    let e = c.in-Some.e in
-    let told = c.in-Some.ensures in
+    let e = c.in_ok-e.e in
+    let told = c.in_ok-e.ensures in
     let same : floor_of next ≡ f = λ i. g.P.Plant.floor (told.kept.plant i).now in
     let within = tied.noted.within e told.next.here in
     taken_from k same told.kept.target told.rows (record {
@@ -59,8 +58,8 @@ returns-clause-turn g c =
     let source = side.source in
     let target = side.target in
     let other = c.args.other.now in
-    let e = c.in-Some.e in
-    let told = c.in-Some.ensures in
+    let e = c.in_ok-e.e in
+    let told = c.in_ok-e.ensures in
     let next = c.next_live.new.self in
     let new = c.settle-met.new.self in
     let met' = c.settle-met.result in
