@@ -12,7 +12,6 @@ pub(crate) struct OutLanes<'p, P: Plant> {
     pub plant: &'p P,
     pub node: u32,
     pub next: u32,
-    ghost few: { length (P.Plant.floor plant.now).lanes ≤ 16384 },
 }
 
 impl<P: Plant> Iterator for OutLanes<'_, P> {
