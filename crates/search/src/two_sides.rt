@@ -68,7 +68,6 @@ pub(crate) fn run_both<P: Plant>(
         back_last = theirs.last;
         met = theirs.met;
     }
-    // a match and no map_or, which would ask for a closure's contract and say no more
     match near.take_turn(&far, back_last, met) {
         Some(ours) => ours.met,
         None => met,
