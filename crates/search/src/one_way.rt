@@ -21,6 +21,7 @@ use cost::kind::CostKind;
 use plant::plant::Plant;
 use queue::Queue;
 
+// What a search ends with. A struct and no pair: its callers name the part that they need.
 #[derive(Clone, Copy)]
 pub(crate) struct Ending<C> {
     pub cost: C,
