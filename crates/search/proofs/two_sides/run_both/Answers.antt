@@ -1,6 +1,6 @@
 use Rattle.std.proofs.Common.{◌≡◌, suc, ◌+◌, ◌-◌, ◌*◌, ◌<◌, eqb, sym, refl, ap, ◌∙◌, subst, arith, rules}
 use Rattle.std.proofs.lemmas.Bool.{cond_both}
-use Rattle.plant.specs.FloorFacts.{turned_laws, turned_twice}
+use Rattle.plant.specs.FloorFacts.{turned_twice}
 use Rattle.plant.specs.Floor.{Floor, turned}
 use Rattle.search.specs.declared.meeting.Meeting.{Meeting}
 use Rattle.search.specs.Sides.{floor_of}
