@@ -46,9 +46,8 @@ pub fn whole(rt: &HostRuntime) -> io::Result<()> {
 //     1 # 2
 pub fn in_two(rt: &HostRuntime) -> io::Result<()> {
     let cells = [1, 255, 2, 1, 255, 2];
-    let mut hall = one_cell();
-    match make_hall(&mut hall, 2, 3, &cells) {
-        Ok(()) => {
+    match Hall::new(2, 3, &cells) {
+        Ok(hall) => {
             route_on(rt, &hall, 0, 2, &mut [0; 6])?;
             route_on(rt, &hall, 0, 3, &mut [0; 6])
         }

@@ -16,15 +16,13 @@ pub trait Printed: CostKind {
 
 impl Printed for Length {
     fn print<W: fmt::Write>(self, f: &mut fmt::Formatter<W>) -> fmt::Result {
-        let metres = self.metres;
-        write!(f, "{metres} metres")
+        write!(f, "{self} metres")
     }
 }
 
 impl Printed for Class {
     fn print<W: fmt::Write>(self, f: &mut fmt::Formatter<W>) -> fmt::Result {
-        let grade = self.grade;
-        write!(f, "class {grade}")
+        write!(f, "class {self}")
     }
 }
 

@@ -1,7 +1,8 @@
 // Equal routes, where the smaller node number decides; and the plant of one node.
 use crate::show::route_on;
+use plants::lane_plant::LanePlant;
 use plants::lists::Lists;
-use plants::make::{lone, make};
+use plants::make::lone;
 use std::io;
 
 // Two routes of two metres each, over node 1 and over node 2:
@@ -19,9 +20,8 @@ pub fn equal(rt: &HostRuntime) -> io::Result<()> {
         to: &[],
         from: &[],
     };
-    let mut plant = lone();
-    match make(&mut plant, 4, 0, lists) {
-        Ok(()) => route_on(rt, &plant, 0, 3, &mut [0; 4]),
+    match LanePlant::new(4, 0, lists) {
+        Ok(plant) => route_on(rt, &plant, 0, 3, &mut [0; 4]),
         Err(_) => Ok(()),
     }
 }
