@@ -4,6 +4,7 @@ ghost use Rattle.std.specs.Prelude.{◌≡◌, ◌≤◌};
 use std::fmt;
 
 // A grade of floor, of which 255 means beyond. The invariant lets the laws speak of every value.
+// Not one generic type with `Length`: they share a constructor and how they are printed, and their fields have each its own name.
 #[derive(Clone, Copy, PartialEq, Eq, PartialOrd, Ord, Debug)]
 pub struct Class {
     pub grade: u8,

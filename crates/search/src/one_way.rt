@@ -81,6 +81,7 @@ pub(crate) fn run<P: Plant>(
 }
 
 // The search over as many rows as there are nodes.
+// Its facts are those that `one_way` has tested: a type that holds them would be made here and taken apart in the next line.
 fn find<P: Plant>(
     plant: &P,
     start: u32,

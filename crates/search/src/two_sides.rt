@@ -66,6 +66,7 @@ pub(crate) fn run_both<P: Plant>(
         back_last = theirs.last;
         met = theirs.met;
     }
+    // the near side's last turn, where it has one
     match near.take_turn(&far, back_last, met) {
         Some(ours) => ours.met,
         None => met,
