@@ -1,13 +1,13 @@
 -- How much room a plant's lists need, and how much there is.
 use Rattle.std.specs.Prelude.{ℕ, ◌+◌, ◌*◌, ◌≤◌, min, Bool, ◌&&◌, List, length, nat_le, nat_lt}
 use Rattle.std.specs.Borrow.{MutBor}
+use Rattle.plants.specs.declared.lists.ListsOf.{ListsOf}
 use Rattle.plants.specs.Columns.{Columns}
 use Rattle.format.specs.declared.counts.Counts.{Counts}
 use Rattle.format.specs.declared.counts.Space.{Space}
-use Rattle.format.specs.declared.lists.ListsMut.{ListsMut}
 
 -- what the caller's lists hold
-abbrev pub held : ListsMut → Columns
+abbrev pub held : ListsOf (MutBor (List ℕ)) → Columns
 held l = record {
   tails = l.tails.now;
   heads = l.heads.now;

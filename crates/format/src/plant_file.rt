@@ -9,7 +9,7 @@ ghost use Rattle.format.specs.Space.{held, after, space_of, Spacious};
 use crate::counts::{Counts, Space, check_room};
 use crate::fault::{ReadFault, with_lanes};
 use crate::lanes::{LaneLists, Lanes};
-use crate::lists::ListsMut;
+use crate::lists::{ListsMut, space};
 use crate::marks::{Mark, fill_tables, test_marks};
 use crate::plant_lines::{PlantLines, read_lines};
 use arrayvec::ArrayVec;
@@ -104,7 +104,7 @@ fn read_tested<'a>(
 pub fn read_plant(text: &[u8], room: Counts, lists: ListsMut) -> Result<PlantFile, ReadFault>
     ensures { ReadAs (room_of room (held lists.entry)) text.now (held lists.entry) (after lists.exit) result }
 {
-    let space = lists.space();
+    let space = space(&lists);
     // taken apart, so that what each list holds has a name until they are settled
     let ListsMut {
         tails,
