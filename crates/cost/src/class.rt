@@ -1,5 +1,6 @@
 // Classes: grades of floor, of which a route has its worst.
-ghost use Rattle.std.specs.Prelude.{◌≡◌, ◌≤◌};
+ghost use Rattle.std.specs.Prelude.{◌≡◌, ◌≤◌, Some};
+ghost use Rattle.std.specs.Fmt.{decimal};
 
 use std::fmt;
 
@@ -19,7 +20,17 @@ impl From<u8> for Class {
     }
 }
 
+impl Class {
+    pub fn of(grade: u8) -> Class
+        ensures { result.grade ≡ grade }
+    {
+        Class::from(grade)
+    }
+}
+
 impl fmt::Display for Class {
+    ghost output = { λ c. Some (decimal c.grade) };
+
     fn fmt<W: fmt::Write>(&self, f: &mut fmt::Formatter<W>) -> fmt::Result {
         write!(f, "{}", self.grade)
     }

@@ -21,6 +21,7 @@ pub trait CostKind: Ord + Copy {
     fn rest(self, other: Self) -> Self
         ensures { result ≡ kind.rest self other };
 
+    // Searches ask by this and not by `<=`: its clause is the kind's own test, by which their steps are stated.
     fn at_most(self, other: Self) -> bool
         ensures { result ≡ kind.at_most self other }
     {

@@ -1,5 +1,6 @@
 // Lengths: metres of way, added along a route.
-ghost use Rattle.std.specs.Prelude.{◌≡◌, ◌≤◌};
+ghost use Rattle.std.specs.Prelude.{◌≡◌, ◌≤◌, Some};
+ghost use Rattle.std.specs.Fmt.{decimal};
 
 use std::fmt;
 
@@ -18,7 +19,17 @@ impl From<u32> for Length {
     }
 }
 
+impl Length {
+    pub fn of(metres: u32) -> Length
+        ensures { result.metres ≡ metres }
+    {
+        Length::from(metres)
+    }
+}
+
 impl fmt::Display for Length {
+    ghost output = { λ c. Some (decimal c.metres) };
+
     fn fmt<W: fmt::Write>(&self, f: &mut fmt::Formatter<W>) -> fmt::Result {
         write!(f, "{}", self.metres)
     }

@@ -11,14 +11,14 @@ use crate::line::{Whole, read_whole};
 use crate::token::Line;
 use search::call::Call;
 
-// A command, and where the next line begins: a `Whole` under the names that callers have.
+// A command, and where the next line begins: a `Whole`, but public, with the names that its callers read.
 #[derive(Clone, Copy, PartialEq, Eq, Debug)]
 pub struct CommandLine {
     pub command: Call,
     pub end: usize,
 }
 
-// The whole line as a command.
+// The whole line as a command. Tried as a chain of `or_else`: what its closures answer did not reach the proof.
 fn take_command(line: Line) -> Option<Call>
     ensures { (ts : List Spelt) → TokensIn line.entry ts → command_of ts ≡ result }
 {
@@ -62,7 +62,7 @@ fn line_feed(text: &[u8]) -> Option<usize>
 pub fn line_feed_after(text: &[u8], from: usize) -> usize
     ensures { result ≡ length text.now - length (behind_feed (drop from text.now)) }
 {
-    // a `match`, since a closure's sum would have to be bounded once more
+    // tried as a `map_or`: the closure's sum asks for a bound that does not reach it
     match line_feed(behind(text, from)) {
         Some(i) => from + i + 1,
         None => text.len(),

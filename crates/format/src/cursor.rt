@@ -32,6 +32,7 @@ fn run<F: Fn(u8) -> bool>(text: &[u8], test: F) -> &[u8]
     requires { F.IsAlwaysCallable test }
     ensures { (k : Kind) → TestsFor (λ c b. F.post test c b) k → result.now ≡ front k text.now }
 {
+    // a loop, since `position` would hand the test on by reference
     for (i, c) in text.iter().enumerate() {
         if !test(*c) {
             return &text[..i];

@@ -73,6 +73,7 @@ impl From<ReadFault> for Refusal {
     ghost from_gives = { λ f r. r ≡ read_refusal f };
 
     fn from(fault: ReadFault) -> Refusal {
+        // the numbers are what a user is told
         match fault {
             ReadFault::NoForm { line, byte } => Refusal {
                 number: 13,
@@ -104,6 +105,13 @@ impl From<ReadFault> for Refusal {
 }
 
 impl ReadFault {
+    // How the fault is told.
+    pub fn refusal(self) -> Refusal
+        ensures { result ≡ read_refusal self }
+    {
+        Refusal::from(self)
+    }
+
     // The line that the reader adds to a plant's fault, which names none itself.
     pub fn added_line(self) -> Option<usize>
         ensures { result ≡ added_line self }

@@ -39,7 +39,7 @@ fn checked(line: Line) -> Result<usize, ReadFault>
     ensures { Checked line.entry.number line.entry.text.now line.entry.from result }
 {
     let end = line_end(line)?;
-    // a `match`, since here `Some` is the fault
+    // tried as a `map_or`: what the closure answers did not reach the proof
     match first_unsound(line) {
         Some(byte) => Err(ReadFault::Number {
             line: line.number,

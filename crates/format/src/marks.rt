@@ -128,6 +128,7 @@ pub fn fill_tables(marks: &[Mark], nodes: usize, to: &mut [u32], from: &mut [u32
     requires { (length marks.now * nodes ≤ length to.old) × (length marks.now * nodes ≤ length from.old) }
     ensures { (ms : List Landmark) → MarksAt nodes ms marks.now → (to.new ≡ joined (map to_row ms) ++ drop (length ms * nodes) to.old) × (from.new ≡ joined (map from_row ms) ++ drop (length ms * nodes) from.old) }
 {
+    // by number: the tables may be longer than their rows, so they are no zip of chunks
     for (m, mark) in marks.iter().enumerate() {
         fill_row(mark.to, to, m * nodes, nodes);
         fill_row(mark.from, from, m * nodes, nodes);

@@ -11,7 +11,7 @@ pub fn number(text: &[u8]) -> Option<u32>
     }
     let mut n: u64 = 0;
     for digit in text {
-        n = 10 * n + digit.saturating_sub(b'0') as u64;
+        n = 10 * n + u64::from(digit.saturating_sub(b'0'));
         if n > 4294967294 {
             return None;
         }

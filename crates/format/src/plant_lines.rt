@@ -8,7 +8,7 @@ use crate::marks::{Mark, read_marks};
 use crate::token::Line;
 use arrayvec::ArrayVec;
 
-// The counts that the first line gives, and the byte behind the last line.
+// The counts that the first line gives, and the byte behind the last line. No `Whole`: that is of one line.
 #[derive(Clone, Copy)]
 pub struct PlantLines {
     pub counts: Counts,

@@ -4,3 +4,4 @@ pub mod Closed
 pub mod Shifted
 pub mod FloorFacts
 pub mod LayerFacts
+pub mod Layers

@@ -1,4 +1,7 @@
 // How a refused call is told: a number, the layer that refused, and two places.
+ghost use Rattle.std.specs.Prelude.{Some};
+ghost use Rattle.plant.specs.Layers.{layer_name};
+
 use std::fmt;
 
 // The part of the router that refused.
@@ -12,6 +15,8 @@ pub enum Layer {
 }
 
 impl fmt::Display for Layer {
+    ghost output = { λ l. Some (layer_name l) };
+
     fn fmt<W: fmt::Write>(&self, f: &mut fmt::Formatter<W>) -> fmt::Result {
         f.write_str(match self {
             Layer::Plant => "plant",

@@ -11,7 +11,7 @@ pub(crate) enum Direction {
 }
 
 impl Direction {
-    // The direction of lane `k`.
+    // The direction of lane `k`. No `From`: a lane's number is more than a direction.
     pub(crate) fn of_lane(k: u32) -> Direction
         ensures { side_of result ≡ k % 4 }
     {

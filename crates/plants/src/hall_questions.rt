@@ -52,7 +52,7 @@ impl Plant for Hall<'_> {
         let east = self.neighbour(v, Direction::East);
         let south = self.neighbour(v, Direction::South);
         let west = self.neighbour(v, Direction::West);
-        // by rising number
+        // by rising number: four times the cell, and the direction as the rules number it
         let lanes = [
             north.map(|u| 4 * u + 2),
             west.map(|u| 4 * u + 1),

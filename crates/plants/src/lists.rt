@@ -1,7 +1,7 @@
 // The lists that a lane plant is made from; they belong to the caller.
 
 // A compressed sparse row graph, by tail and by head, with the tables of its landmarks. `L` is how a list is held.
-// Eight lists side by side, and not one of structs: the caller lends each as plain numbers, since there is no heap.
+// Eight lists side by side, and not one of structs: a caller lends each as plain numbers, as it always could.
 #[derive(Clone, Copy, Drop)]
 pub struct ListsOf<L> {
     // by lane number; tails never fall

@@ -18,17 +18,19 @@ use std::alloc::{AllocError, Global};
 // Prints the answer to each command of the text, or why its plant is refused.
 pub fn serve(rt: &HostRuntime, text: &[u8]) -> anyhow::Result<()> {
     if text.len() > MOST_BYTES {
-        rt.println(Refused::from(ReadFault::Short))?;
-        return Ok(());
+        return refuse(rt, Refused::from(ReadFault::Short));
     }
     let mut room = plant_room(rt.alloc())?;
     match fill(text, &mut room) {
         Ok(file) => serve_plant(rt, text, file, &room),
-        Err(fault) => {
-            rt.println(Refused::from(fault))?;
-            Ok(())
-        }
+        Err(fault) => refuse(rt, Refused::from(fault)),
     }
+}
+
+// Prints why there is no more to answer.
+fn refuse(rt: &HostRuntime, refused: Refused) -> anyhow::Result<()> {
+    rt.println(refused)?;
+    Ok(())
 }
 
 // Reads the plant into the program's lists.
@@ -73,10 +75,7 @@ fn serve_plant(
     };
     match LanePlant::new(file.counts.nodes, file.counts.landmarks, lists) {
         Ok(plant) => answer_all(rt, text, file, &plant),
-        Err(fault) => {
-            rt.println(Refused::from(Refusal::from(fault)))?;
-            Ok(())
-        }
+        Err(fault) => refuse(rt, Refused::from(Refusal::from(fault))),
     }
 }
 
@@ -89,7 +88,7 @@ fn read_lines(
     let mut lines = Vec::new(heap);
     let mut at = file.end;
     let mut line = file.lines.saturating_add(1);
-    // by place: a fault tells the bytes of the whole text
+    // by lines: each begins where the one before ended
     while at < text.len() {
         lines.push(read_command(text, at, line).map(|read| read.command))?;
         at = line_feed_after(text, at);
@@ -131,10 +130,7 @@ fn answer_all(
             told.replies.as_slice(),
             told.routes.as_slice(),
         ),
-        Err(fault) => {
-            rt.println(Refused::from(Refusal::from(fault)))?;
-            Ok(())
-        }
+        Err(fault) => refuse(rt, Refused::from(Refusal::from(fault))),
     }
 }
 

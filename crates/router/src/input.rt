@@ -9,6 +9,7 @@ pub fn read_input(rt: &HostRuntime) -> anyhow::Result<Vec<u8>> {
     let mut text = Vec::new(rt.alloc());
     let mut input = rt.stdin();
     let mut part = [0u8; 4096];
+    // a bound and no index: reading has to end
     for _ in 0..u64::MAX {
         let n = input.read(&mut part)?;
         if n == 0 || text.len() > MOST_BYTES {

@@ -21,6 +21,7 @@ fn write_labels<C: CostKind>(rows: &[Row<C>], costs: &mut [C])
     requires { length rows.now ≤ length costs.old }
     ensures { costs.new ≡ onto (map label_of rows.now) costs.old }
 {
+    // by index: after a zip with `iter_mut` a proof knows nothing of the list
     for (i, row) in rows.iter().enumerate() {
         costs[i] = row.label;
     }
@@ -42,7 +43,7 @@ fn explore<P: Plant>(
     ensures count { result ≡ count_scanned (survey P.Cost.CostKind.kind (P.Plant.floor plant.now) start) }
     ensures costs { costs.new ≡ onto (map label_of (survey P.Cost.CostKind.kind (P.Plant.floor plant.now) start)) costs.old }
 {
-    // no node has this number, so no step ends the survey early
+    // no node has this number, so no step ends the survey early; an `Option` would be tested at each step
     let nowhere = plant.node_count();
     let blind = Blind { below: plant };
     let Ending { scanned, .. } = run(&blind, start, nowhere, rows, slots);

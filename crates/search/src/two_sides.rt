@@ -66,7 +66,7 @@ pub(crate) fn run_both<P: Plant>(
         back_last = theirs.last;
         met = theirs.met;
     }
-    // the near side's last turn, where it has one
+    // tried as a `map_or`: the equation with the last turn stayed open
     match near.take_turn(&far, back_last, met) {
         Some(ours) => ours.met,
         None => met,

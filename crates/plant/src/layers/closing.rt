@@ -66,6 +66,7 @@ impl From<ShiftFault> for Refusal {
     ghost from_gives = { λ fault r. r ≡ refusal_of fault };
 
     fn from(fault: ShiftFault) -> Refusal {
+        // the numbers are what a user is told
         let (number, lane) = match fault {
             ShiftFault::NoLane(k) => (9, k),
             ShiftFault::Closed(k) => (10, k),

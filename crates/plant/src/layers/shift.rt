@@ -1,4 +1,6 @@
 // The shift: a plant with some lanes closed for the time being. It stands alone so that specifications can name it.
+ghost use Rattle.std.specs.Prelude.{◌≤◌, length};
+
 use arrayvec::ArrayVec;
 
 // The most lanes that may be closed at one time.
@@ -10,6 +12,7 @@ pub struct Shift<P> {
     pub(crate) below: P,
     // the closed lanes' numbers, the latest last
     pub(crate) closed: ArrayVec<u32, MOST_CLOSED>,
+    ghost few: { length closed.items ≤ 64 },
 }
 
 // Why a close or a reopen is refused, with the lane.
