@@ -9,7 +9,7 @@ use Rattle.plants.specs.declared.fault.PlantFault.TheVariants.{Counts as OfCount
 use Rattle.format.specs.declared.counts.Counts.{Counts}
 use Rattle.format.specs.declared.counts.Space.{Space}
 use Rattle.format.specs.declared.marks.Mark.{Mark as MarkPlace}
-use Rattle.format.specs.declared.lanes.LaneLists.{LaneLists}
+use Rattle.format.specs.Lanes.{LaneLists}
 use Rattle.format.specs.declared.plant_lines.PlantLines.{PlantLines}
 use Rattle.format.specs.declared.fault.Placed.{Placed}
 use Rattle.format.specs.declared.fault.ReadFault.{ReadFault}

@@ -2,7 +2,7 @@
 use Rattle.std.proofs.Common.{◌≡◌, ℕ, suc, ◌+◌, ◌-◌, ◌<◌, ◌≤◌, List, [], ◌∷◌, ◌++◌, map, length, drop, sym, refl, ap, ◌∙◌, subst, append_assoc, arith, length-append}
 use Rattle.std.proofs.lemmas.List.{append-nil, map-append}
 use Rattle.format.specs.declared.marks.Mark.{Mark as MarkPlace}
-use Rattle.format.specs.declared.lanes.LaneLists.{LaneLists}
+use Rattle.format.specs.Lanes.{LaneLists}
 use Rattle.format.specs.Plain.{Lane, Mark}
 use Rattle.format.specs.Form.{Token}
 use Rattle.format.specs.Items.{Took, took, other, then, all}

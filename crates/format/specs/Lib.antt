@@ -16,3 +16,4 @@ pub mod Space
 pub mod Faults
 pub mod Checked
 pub mod Commands
+pub mod Lanes

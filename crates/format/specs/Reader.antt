@@ -6,7 +6,7 @@ use Rattle.plants.specs.declared.fault.PlantFault.{PlantFault}
 use Rattle.plants.specs.Faults.{counts_fit}
 use Rattle.format.specs.declared.counts.Counts.{Counts}
 use Rattle.format.specs.declared.counts.Space.{Space}
-use Rattle.format.specs.declared.lanes.LaneLists.{LaneLists}
+use Rattle.format.specs.Lanes.{LaneLists}
 use Rattle.format.specs.declared.marks.Mark.{Mark as MarkPlace}
 use Rattle.format.specs.declared.plant_lines.PlantLines.{PlantLines}
 use Rattle.format.specs.declared.fault.ReadFault.{ReadFault}

@@ -1,7 +1,7 @@
 -- What the code reads of each kind of line.
 use Rattle.std.specs.Prelude.{◌≡◌, ℕ, ◌+◌, ◌<◌, ◌≤◌, List, [], ◌∷◌, ◌++◌, map, length, drop, Some, None, Ok, Err, Option, Result, slice_index}
 use Rattle.format.specs.declared.fault.ReadFault.{ReadFault}
-use Rattle.format.specs.declared.lanes.LaneLists.{LaneLists}
+use Rattle.format.specs.Lanes.{LaneLists}
 use Rattle.format.specs.declared.marks.Mark.{Mark as MarkPlace}
 use Rattle.format.specs.declared.line.Whole.{Whole}
 use Rattle.format.specs.declared.cursor.Cursor.{Cursor}

@@ -10,21 +10,19 @@ use crate::line::{Whole, read_whole};
 use crate::token::Line;
 use arrayvec::ArrayVec;
 
-// The lanes that are read, by column, as many as there is room for.
-#[derive(Drop)]
-pub struct LaneLists {
-    pub tails: ArrayVec<u32, 16384>,
-    pub heads: ArrayVec<u32, 16384>,
-    pub costs: ArrayVec<u32, 16384>,
+// The lanes of a plant, by column. `L` is how a column is held.
+#[derive(Clone, Copy, Drop)]
+pub struct LanesOf<L> {
+    pub tails: L,
+    pub heads: L,
+    pub costs: L,
 }
 
-// The lanes of a plant, by column, as the tests of a plant and its index take them.
-#[derive(Clone, Copy)]
-pub struct Lanes<'a> {
-    pub tails: &'a [u32],
-    pub heads: &'a [u32],
-    pub costs: &'a [u32],
-}
+// The lanes that are read, as many as there is room for.
+pub type LaneLists = LanesOf<ArrayVec<u32, 16384>>;
+
+// The lanes as the tests of a plant and its index take them.
+pub type Lanes<'a> = LanesOf<&'a [u32]>;
 
 // A whole line (WORD A B C).
 pub fn numbers_line(line: Line, word: &[u8]) -> Result<Whole<[u32; 3]>, ReadFault>
@@ -42,7 +40,7 @@ pub fn keep<T: Copy, const N: usize>(list: &mut ArrayVec<T, N>, item: T)
     }
 }
 
-impl LaneLists {
+impl LanesOf<ArrayVec<u32, 16384>> {
     // No lanes.
     pub fn new() -> LaneLists
         ensures { (result.tails.items ≡ []) × (result.heads.items ≡ []) × (result.costs.items ≡ []) }
