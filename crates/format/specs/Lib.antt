@@ -15,4 +15,5 @@ pub mod Reader
 pub mod Space
 pub mod Faults
 pub mod Checked
+pub mod Judged
 pub mod Commands
