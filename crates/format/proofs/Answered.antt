@@ -24,6 +24,7 @@ use Rattle.format.specs.Reads.{Sized, Pushed, MarksAt, MarksKept}
 use Rattle.format.specs.Space.{room_for, space_of, Spacious}
 use Rattle.format.specs.Turns.{Fault, got, lost, lines}
 use Rattle.format.proofs.Agreed.{told_of, plain_told}
+use Rattle.format.proofs.Judged.{counts_without}
 
 -- a line's fault is the reader's
 pub read_lost : (room : Room) (t : List ℕ) (e : Fault) → lines t ≡ lost e → read room t ≡ lost e
@@ -123,9 +124,6 @@ accepts_plant room t rest p r e =
     let s : tested room p ≡ None = tested_columns room p r.counted r.has ∙ ap (told_of (length p.lanes)) (sym e) in
     rw (r.read_as, s)
 
-pub fault_for : (n n' : ℕ) (ts ts' hs hs' cs cs' : List ℕ) (ms : List Mark) (o : Option PlantFault) → n ≡ n' → ts ≡ ts' → hs ≡ hs' → cs ≡ cs' → o ≡ columns_fault n ts hs cs ms → o ≡ columns_fault n' ts' hs' cs' ms
-fault_for n n' ts ts' hs hs' cs cs' ms o a t h c e = e ∙ (λ i. columns_fault (a i) (t i) (h i) (c i) ms)
-
 -- a plant that was tested is one for which there is room
 pub roomy_for : (limits : Counts) (lists : Columns) (s : Space) (t : List ℕ) (lanes lanes' : LaneLists) (marks marks' : List MarkPlace) (l : PlantLines) (k : Tested limits s t lanes lanes' marks marks' l) → s ≡ space_of lists → Roomy (room_of limits lists) t (drop l.end t) k.plant
 roomy_for limits lists s t lanes lanes' marks marks' l k q = record {
@@ -157,6 +155,34 @@ kept_column f ls before after n b e h p =
 
 pub column_long : (xs : List ℕ) (f : Lane → ℕ) (ls : List Lane) (n : ℕ) → length ls ≡ n → xs ≡ map f ls → length xs ≡ n
 column_long xs f ls n e q = ap length q ∙ (length-map ls f ∙ e)
+
+-- the columns and landmarks that were kept, as they are tested and written
+pub record Columned (p : Plain) (n : Counts) (ts hs cs : List ℕ) (xs : List MarkPlace) : Type 0 where
+  pub tails_are : ts ≡ tails p
+  pub heads_are : hs ≡ heads p
+  pub costs_are : cs ≡ costs p
+  pub marks_are : MarksAt n.nodes p.marks xs
+
+pub columned : (limits : Counts) (s : Space) (t : List ℕ) (lanes lanes' : LaneLists) (marks marks' : List MarkPlace) (l : PlantLines) (k : Tested limits s t lanes lanes' marks marks' l) (ts hs cs : List ℕ) (xs : List MarkPlace) → (lanes.tails.items ≡ []) × (lanes.heads.items ≡ []) × (lanes.costs.items ≡ []) → marks ≡ [] → (ts ≡ lanes'.tails.items) × (hs ≡ lanes'.heads.items) × (cs ≡ lanes'.costs.items) → xs ≡ marks' → Columned k.plant l.counts ts hs cs xs
+columned limits s t lanes lanes' marks marks' l k ts hs cs xs empty none are at =
+    let p = k.plant in
+    let n = l.counts in
+    let few = few_lanes n.nodes n.lanes n.landmarks k.fit in
+    let some = few_marks n.nodes n.lanes n.landmarks k.fit in
+    record {
+      tails_are = are.0 ∙ kept_column (λ (l : Lane). l.tail) p.lanes _ _ n.lanes empty.0 k.sized.lanes few k.lanes_kept.tails_kept;
+      heads_are = are.1 ∙ kept_column (λ (l : Lane). l.head) p.lanes _ _ n.lanes empty.1 k.sized.lanes few k.lanes_kept.heads_kept;
+      costs_are = are.2 ∙ kept_column (λ (l : Lane). l.cost) p.lanes _ _ n.lanes empty.2 k.sized.lanes few k.lanes_kept.costs_kept;
+      marks_are = subst (MarksAt n.nodes p.marks) (sym at) (kept_marks p.nodes n.nodes n.landmarks p.marks _ _ k.sized.nodes none k.sized.marks some k.marks_kept);
+    }
+
+-- the fault that they have is the plant's
+pub fault_for : (p : Plain) (n : Counts) (ts hs cs : List ℕ) (xs : List MarkPlace) (o : Option PlantFault) → Columned p n ts hs cs xs → Sized p n → counts_fit n.nodes n.lanes n.landmarks ≡ true → ((ms : List Mark) → MarksAt n.nodes ms xs → counts_fit n.nodes (length ts) 0 ≡ true → length hs ≡ length ts → o ≡ columns_fault n.nodes ts hs cs ms) → o ≡ columns_fault p.nodes (tails p) (heads p) (costs p) p.marks
+fault_for p n ts hs cs xs o k z fit is =
+    let long = column_long ts (λ (l : Lane). l.tail) p.lanes n.lanes z.lanes k.tails_are in
+    let same = column_long hs (λ (l : Lane). l.head) p.lanes n.lanes z.lanes k.heads_are in
+    is p.marks k.marks_are (counts_without n.nodes n.lanes n.landmarks (length ts) fit long) (same ∙ sym long)
+    ∙ (λ i. columns_fault (sym z.nodes i) (k.tails_are i) (k.heads_are i) (k.costs_are i) p.marks)
 
 -- there is room for what was read
 pub spacious_for : (c limits : Counts) (s s' : Space) (m : ℕ) (ts hs cs : List ℕ) → room_for c limits s ≡ true → s ≡ s' → m ≡ c.landmarks → length ts ≡ c.lanes → length hs ≡ c.lanes → length cs ≡ c.lanes → Spacious c.nodes m ts hs cs s'
