@@ -14,6 +14,7 @@ abbrev pub marks_fault : List ℕ → List ℕ → List ℕ → ℕ → List Mar
 marks_fault tails heads costs m [] = None
 marks_fault tails heads costs m (k ∷ ks) = mark_fault tails heads costs m k (marks_fault tails heads costs (suc m) ks)
 
+-- ends, then costs, then tables, each over the whole plant
 abbrev pub columns_fault : ℕ → List ℕ → List ℕ → List ℕ → List Mark → Option PlantFault
 columns_fault nodes tails heads costs marks =
     or_else (λ k. Ends k) (first_failing (ends_fit nodes tails heads) 0 (length tails))
