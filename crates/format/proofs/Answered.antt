@@ -1,5 +1,5 @@
--- What the reader refuses before it tests lanes and tables.
-use Rattle.std.proofs.Common.{◌≡◌, ℕ, ◌*◌, ◌≤◌, Bool, true, false, cond, leb, nat_lt, List, [], ◌++◌, map, length, drop, Some, None, Ok, Err, Option, Result, sym, refl, ap, ◌∙◌, subst, subst₂, inl, inr, arith}
+-- What the reader refuses and accepts.
+use Rattle.std.proofs.Common.{◌≡◌, ℕ, ◌*◌, ◌≤◌, Bool, true, false, cond, leb, nat_lt, List, [], ◌++◌, map, length, drop, Some, None, Ok, Err, Option, Result, sym, refl, ap, ◌∙◌, subst, subst₂, arith}
 use Rattle.std.proofs.lemmas.List.{length-map}
 use Rattle.std.proofs.lemmas.Bool.{and_parts, leb-true, ltb-true}
 use Rattle.plants.specs.Columns.{Columns}
@@ -13,15 +13,18 @@ use Rattle.format.specs.Lanes.{LaneLists}
 use Rattle.format.specs.declared.plant_lines.PlantLines.{PlantLines}
 use Rattle.format.specs.declared.fault.Placed.{Placed}
 use Rattle.format.specs.declared.fault.ReadFault.{ReadFault}
-use Rattle.format.specs.declared.fault.ReadFault.TheVariants.{NoForm, Form, Number, Short, Plant}
-use Rattle.format.specs.Plain.{Lane, Mark, Plain}
+use Rattle.format.specs.declared.fault.ReadFault.TheVariants.{Short, Plant}
+use Rattle.format.specs.Plain.{Lane, Mark, Plain, tails, heads, costs}
 use Rattle.format.specs.Checks.{Room, has_room, has_counts, tested}
 use Rattle.format.specs.Faults.{line_of, told, with_lanes, read_fault}
+use Rattle.format.specs.Judged.{columns_fault}
 use Rattle.format.specs.Read.{read}
-use Rattle.format.specs.Reader.{room_of, Tested, Roomy, RefusesPlant, Refuses, Written, TablesWritten}
+use Rattle.format.specs.Reader.{room_of, Tested, Roomy, Refuses, Written, TablesWritten}
 use Rattle.format.specs.Reads.{Sized, Pushed, MarksAt, MarksKept}
 use Rattle.format.specs.Space.{room_for, space_of, Spacious}
 use Rattle.format.specs.Turns.{Fault, got, lost, lines}
+use Rattle.format.proofs.Agreed.{told_of, plain_told}
+use Rattle.format.proofs.Judged.{counts_without}
 
 -- a line's fault is the reader's
 pub read_lost : (room : Room) (t : List ℕ) (e : Fault) → lines t ≡ lost e → read room t ≡ lost e
@@ -59,14 +62,6 @@ sized_counts p c s = rw (s.nodes, s.lanes, s.marks)
 pub sized_room : (p : Plain) (c limits : Counts) (lists : Columns) → Sized p c → has_room (room_of limits lists) p ≡ room_for c limits (space_of lists)
 sized_room p c limits lists s = rw (s.nodes, s.lanes, s.marks)
 
--- a line's fault as the reader tells it
-pub refuses_line : (room : Room) (t : List ℕ) (f : ReadFault) → lines t ≡ lost (told f) → Refuses room t f
-refuses_line room t (NoForm line byte) e = read_lost room t _ e
-refuses_line room t (Form line) e = read_lost room t _ e
-refuses_line room t (Number line byte) e = read_lost room t _ e
-refuses_line room t Short e = read_lost room t _ e
-refuses_line room t (Plant fault line) e = inl (read_lost room t _ e)
-
 -- what a test's answer was before it was placed
 pub placed_fault : (n : ℕ) (r : Result (Unit {0}) PlantFault) (x : Placed) → Err x ≡ with_lanes n r → (r ≡ Err x.fault) × (x.lanes ≡ n)
 placed_fault n (Ok u) x e = absurd (let z : ◌≡◌ {A = ℕ} 0 1 = cc in omega arith)
@@ -86,14 +81,11 @@ placed_none n (Err f) u e = absurd (let z : ◌≡◌ {A = ℕ} 0 1 = cc in omeg
 
 pub refuses_counts : (room : Room) (t rest : List ℕ) (p : Plain) (x : Placed) → lines t ≡ got p rest → has_counts p ≡ false → x.fault ≡ OfCounts → Refuses room t (read_fault x)
 refuses_counts room t rest p x q e f =
-    let F : PlantFault → Type 0 = λ g. RefusesPlant room t g (line_of g x.lanes) in
-    subst F (sym f) (inl (read_counts room t rest p q e))
+    let F : PlantFault → Type 0 = λ g. Refuses room t (Plant g (line_of g x.lanes)) in
+    subst F (sym f) (read_counts room t rest p q e)
 
 pub refuses_short : (room : Room) (t rest : List ℕ) (p : Plain) (f : ReadFault) → lines t ≡ got p rest → has_counts p ≡ true → has_room room p ≡ false → f ≡ Short → Refuses room t f
 refuses_short room t rest p f q e h s = subst (Refuses room t) (sym s) (read_short room t rest p q e h)
-
-pub refuses_found : (room : Room) (t rest : List ℕ) (p : Plain) (x : Placed) → Roomy room t rest p → x.lanes ≡ length p.lanes → Refuses room t (read_fault x)
-refuses_found room t rest p x r l = inr (record { plant = p; rest = rest; roomy = r; placed = ap (line_of x.fault) l })
 
 -- the columns that were kept while the lines were read
 
@@ -110,6 +102,27 @@ few_marks nodes lanes landmarks e =
     let b = and_parts (leb nodes 4096) _ a.1 in
     let c = and_parts (leb lanes 16384) _ b.1 in
     leb-true landmarks 16 c.1
+
+-- what the tests of lanes and tables say of a plant for which there is room
+
+tested_columns : (room : Room) (p : Plain) → has_counts p ≡ true → has_room room p ≡ true → tested room p ≡ told_of (length p.lanes) (columns_fault p.nodes (tails p) (heads p) (costs p) p.marks)
+unfolding tested
+tested_columns room p e h =
+    holds (has_counts p) _ _ e
+    ∙ (holds (has_room room p) _ _ h ∙ sym (plain_told p (few_lanes p.nodes (length p.lanes) (length p.marks) e) (few_marks p.nodes (length p.lanes) (length p.marks) e)))
+
+pub refuses_plant : (room : Room) (t rest : List ℕ) (p : Plain) (x : Placed) → Roomy room t rest p → x.lanes ≡ length p.lanes → Some x.fault ≡ columns_fault p.nodes (tails p) (heads p) (costs p) p.marks → Refuses room t (read_fault x)
+unfolding read
+refuses_plant room t rest p x r l e =
+    let s : tested room p ≡ Some (told (Plant x.fault (line_of x.fault x.lanes))) =
+    tested_columns room p r.counted r.has ∙ (ap (told_of (length p.lanes)) (sym e) ∙ ap (λ n. Some (told (Plant x.fault (line_of x.fault n)))) (sym l)) in
+    rw (r.read_as, s)
+
+pub accepts_plant : (room : Room) (t rest : List ℕ) (p : Plain) → Roomy room t rest p → None ≡ columns_fault p.nodes (tails p) (heads p) (costs p) p.marks → read room t ≡ got p rest
+unfolding read
+accepts_plant room t rest p r e =
+    let s : tested room p ≡ None = tested_columns room p r.counted r.has ∙ ap (told_of (length p.lanes)) (sym e) in
+    rw (r.read_as, s)
 
 -- a plant that was tested is one for which there is room
 pub roomy_for : (limits : Counts) (lists : Columns) (s : Space) (t : List ℕ) (lanes lanes' : LaneLists) (marks marks' : List MarkPlace) (l : PlantLines) (k : Tested limits s t lanes lanes' marks marks' l) → s ≡ space_of lists → Roomy (room_of limits lists) t (drop l.end t) k.plant
@@ -142,6 +155,34 @@ kept_column f ls before after n b e h p =
 
 pub column_long : (xs : List ℕ) (f : Lane → ℕ) (ls : List Lane) (n : ℕ) → length ls ≡ n → xs ≡ map f ls → length xs ≡ n
 column_long xs f ls n e q = ap length q ∙ (length-map ls f ∙ e)
+
+-- the columns and landmarks that were kept, as they are tested and written
+pub record Columned (p : Plain) (n : Counts) (ts hs cs : List ℕ) (xs : List MarkPlace) : Type 0 where
+  pub tails_are : ts ≡ tails p
+  pub heads_are : hs ≡ heads p
+  pub costs_are : cs ≡ costs p
+  pub marks_are : MarksAt n.nodes p.marks xs
+
+pub columned : (limits : Counts) (s : Space) (t : List ℕ) (lanes lanes' : LaneLists) (marks marks' : List MarkPlace) (l : PlantLines) (k : Tested limits s t lanes lanes' marks marks' l) (ts hs cs : List ℕ) (xs : List MarkPlace) → (lanes.tails.items ≡ []) × (lanes.heads.items ≡ []) × (lanes.costs.items ≡ []) → marks ≡ [] → (ts ≡ lanes'.tails.items) × (hs ≡ lanes'.heads.items) × (cs ≡ lanes'.costs.items) → xs ≡ marks' → Columned k.plant l.counts ts hs cs xs
+columned limits s t lanes lanes' marks marks' l k ts hs cs xs empty none are at =
+    let p = k.plant in
+    let n = l.counts in
+    let few = few_lanes n.nodes n.lanes n.landmarks k.fit in
+    let some = few_marks n.nodes n.lanes n.landmarks k.fit in
+    record {
+      tails_are = are.0 ∙ kept_column (λ (l : Lane). l.tail) p.lanes _ _ n.lanes empty.0 k.sized.lanes few k.lanes_kept.tails_kept;
+      heads_are = are.1 ∙ kept_column (λ (l : Lane). l.head) p.lanes _ _ n.lanes empty.1 k.sized.lanes few k.lanes_kept.heads_kept;
+      costs_are = are.2 ∙ kept_column (λ (l : Lane). l.cost) p.lanes _ _ n.lanes empty.2 k.sized.lanes few k.lanes_kept.costs_kept;
+      marks_are = subst (MarksAt n.nodes p.marks) (sym at) (kept_marks p.nodes n.nodes n.landmarks p.marks _ _ k.sized.nodes none k.sized.marks some k.marks_kept);
+    }
+
+-- the fault that they have is the plant's
+pub fault_for : (p : Plain) (n : Counts) (ts hs cs : List ℕ) (xs : List MarkPlace) (o : Option PlantFault) → Columned p n ts hs cs xs → Sized p n → counts_fit n.nodes n.lanes n.landmarks ≡ true → ((ms : List Mark) → MarksAt n.nodes ms xs → counts_fit n.nodes (length ts) 0 ≡ true → length hs ≡ length ts → o ≡ columns_fault n.nodes ts hs cs ms) → o ≡ columns_fault p.nodes (tails p) (heads p) (costs p) p.marks
+fault_for p n ts hs cs xs o k z fit is =
+    let long = column_long ts (λ (l : Lane). l.tail) p.lanes n.lanes z.lanes k.tails_are in
+    let same = column_long hs (λ (l : Lane). l.head) p.lanes n.lanes z.lanes k.heads_are in
+    is p.marks k.marks_are (counts_without n.nodes n.lanes n.landmarks (length ts) fit long) (same ∙ sym long)
+    ∙ (λ i. columns_fault (sym z.nodes i) (k.tails_are i) (k.heads_are i) (k.costs_are i) p.marks)
 
 -- there is room for what was read
 pub spacious_for : (c limits : Counts) (s s' : Space) (m : ℕ) (ts hs cs : List ℕ) → room_for c limits s ≡ true → s ≡ s' → m ≡ c.landmarks → length ts ≡ c.lanes → length hs ≡ c.lanes → length cs ≡ c.lanes → Spacious c.nodes m ts hs cs s'

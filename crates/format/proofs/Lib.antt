@@ -23,6 +23,8 @@ mod Kept
 mod Parts
 mod Answered
 mod Tables
+mod Judged
+mod Agreed
 mod CommandLines
 mod Numbered
 mod Exits

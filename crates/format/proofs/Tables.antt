@@ -1,5 +1,5 @@
 -- The rows of the landmarks' tables, one after another.
-use Rattle.std.proofs.Common.{◌≡◌, ℕ, zero, suc, ◌+◌, ◌-◌, ◌*◌, ◌<◌, ◌≤◌, List, [], ◌∷◌, ◌++◌, map, length, get_or, take, drop, sym, refl, ap, ◌∙◌, append_assoc, suc-mul, zero-mul, add-one, arith, length-append, length-drop, drop-drop}
+use Rattle.std.proofs.Common.{◌≡◌, ℕ, zero, suc, ◌+◌, ◌-◌, ◌*◌, ◌<◌, ◌≤◌, List, [], ◌∷◌, ◌++◌, map, length, get_or, take, drop, sym, refl, ap, ◌∙◌, subst, append_assoc, suc-mul, zero-mul, add-one, arith, length-append, length-drop, drop-drop}
 use borrow.Rule.Slice.PartMut.{put_mid}
 use Rattle.std.proofs.lemmas.List.{append-nil, map-append, take_at, drop_at, take_all, length-take-le}
 use Rattle.plants.specs.Index.{joined}
@@ -20,6 +20,12 @@ row_long a n rows h =
     let d = length-drop a rows in
     ap (λ m. length (take m (drop a rows))) k ∙ length-take-le n (drop a rows) (omega arith)
 
+-- so one at the front
+pub front_long : (n : ℕ) (rows : List ℕ) → n ≤ length rows → length (take (n - 0) (drop 0 rows)) ≡ n
+front_long n rows h =
+    let k : n - 0 ≡ n = omega arith in
+    ap (λ m. length (take m rows)) k ∙ length-take-le n rows h
+
 -- the landmarks and their places
 
 pub marks_long : (n : ℕ) (ms : List Mark) (xs : List MarkPlace) → MarksAt n ms xs → length ms ≡ length xs
@@ -31,16 +37,21 @@ marks_long n (m ∷ ms) (x ∷ xs) h = ap suc (marks_long n ms xs h.1)
 pub record Nth (n : ℕ) (ms : List Mark) (x : MarkPlace) (m : ℕ) : Type 0 where
   pub mark : Mark
   pub next : take (suc m) ms ≡ take m ms ++ (mark ∷ [])
+  pub left : drop m ms ≡ mark ∷ drop (suc m) ms
   pub here : MarkAt n mark x
 
 pub marks_nth : (n : ℕ) (ms : List Mark) (xs : List MarkPlace) (d : MarkPlace) (m : ℕ) → MarksAt n ms xs → m < length xs → Nth n ms (get_or xs m d) m
 marks_nth n [] [] d m h l = absurd (omega arith)
 marks_nth n [] (x ∷ xs) d m h l = absurd h
 marks_nth n (k ∷ ms) [] d m h l = absurd h
-marks_nth n (k ∷ ms) (x ∷ xs) d zero h l = record { mark = k; next = refl; here = h.0 }
+marks_nth n (k ∷ ms) (x ∷ xs) d zero h l = record { mark = k; next = refl; left = refl; here = h.0 }
 marks_nth n (k ∷ ms) (x ∷ xs) d (suc m) h l =
     let r = marks_nth n ms xs d m h.1 (omega arith) in
-    record { mark = r.mark; next = ap (λ ns. k ∷ ns) r.next; here = r.here }
+    record { mark = r.mark; next = ap (λ ns. k ∷ ns) r.next; left = r.left; here = r.here }
+
+-- the same for a number that is equal
+pub nth_here : (n n' m : ℕ) (ms : List Mark) (x : MarkPlace) (k : Nth n ms x m) → n' ≡ n → MarkAt n' k.mark x
+nth_here n n' m ms x k e = subst (λ i. MarkAt i k.mark x) (sym e) k.here
 
 -- rows of one length
 rows_long : (f : Mark → List ℕ) (n : ℕ) → ((k : Mark) (x : MarkPlace) → MarkAt n k x → length (f k) ≡ n) → (ms : List Mark) (xs : List MarkPlace) (m : ℕ) → MarksAt n ms xs → m ≤ length xs → length (joined (map f (take m ms))) ≡ m * n

@@ -15,5 +15,6 @@ pub mod Reader
 pub mod Space
 pub mod Faults
 pub mod Checked
+pub mod Judged
 pub mod Commands
 pub mod Lanes

@@ -1,8 +1,7 @@
 -- What the reader answers of a plant file.
-use Rattle.std.specs.Prelude.{◌≡◌, ℕ, ◌+◌, ◌*◌, true, ◌⊎◌, List, ◌++◌, map, length, drop, Ok, Err, Result}
+use Rattle.std.specs.Prelude.{◌≡◌, ℕ, ◌+◌, ◌*◌, true, List, ◌++◌, map, length, drop, Ok, Err, Result}
 use Rattle.plants.specs.Columns.{Columns}
 use Rattle.plants.specs.Index.{joined, firsts, grouped}
-use Rattle.plants.specs.declared.fault.PlantFault.{PlantFault}
 use Rattle.plants.specs.Faults.{counts_fit}
 use Rattle.format.specs.declared.counts.Counts.{Counts}
 use Rattle.format.specs.declared.counts.Space.{Space}
@@ -10,11 +9,10 @@ use Rattle.format.specs.Lanes.{LaneLists}
 use Rattle.format.specs.declared.marks.Mark.{Mark as MarkPlace}
 use Rattle.format.specs.declared.plant_lines.PlantLines.{PlantLines}
 use Rattle.format.specs.declared.fault.ReadFault.{ReadFault}
-use Rattle.format.specs.declared.fault.ReadFault.TheVariants.{NoForm, Form, Number, Short, Plant}
 use Rattle.format.specs.declared.plant_file.PlantFile.{PlantFile}
 use Rattle.format.specs.Plain.{Mark, Plain, tails, heads, costs, to_row, from_row}
 use Rattle.format.specs.Checks.{Room, has_room, has_counts}
-use Rattle.format.specs.Faults.{line_of, told}
+use Rattle.format.specs.Faults.{told}
 use Rattle.format.specs.Read.{read}
 use Rattle.format.specs.Reads.{Sized, LanesKept, MarksKept}
 use Rattle.format.specs.Space.{room_for, space_of}
@@ -30,23 +28,9 @@ pub record Roomy (room : Room) (t rest : List ℕ) (p : Plain) : Type 0 where
   pub counted : has_counts p ≡ true
   pub has : has_room room p ≡ true
 
--- a fault that the tests of lanes and tables found in such a plant, on its line
-pub record Found (room : Room) (t : List ℕ) (fault : PlantFault) (line : ℕ) : Type 0 where
-  pub plant : Plain
-  pub rest : List ℕ
-  pub roomy : Roomy room t rest plant
-  pub placed : line ≡ line_of fault (length plant.lanes)
-
--- a plant's fault is that of the definition, or one that the tests of lanes and tables found
-abbrev pub RefusesPlant : Room → List ℕ → PlantFault → ℕ → Type 0
-RefusesPlant room t fault line = (read room t ≡ lost (told (Plant fault line))) ⊎ Found room t fault line
-
+-- a refusal is the definition's, with its places and line
 abbrev pub Refuses : Room → List ℕ → ReadFault → Type 0
-Refuses room t (NoForm line byte) = read room t ≡ lost (told (NoForm line byte))
-Refuses room t (Form line) = read room t ≡ lost (told (Form line))
-Refuses room t (Number line byte) = read room t ≡ lost (told (Number line byte))
-Refuses room t Short = read room t ≡ lost (told Short)
-Refuses room t (Plant fault line) = RefusesPlant room t fault line
+Refuses room t f = read room t ≡ lost (told f)
 
 -- a plant of which the lines were read, and the counts and the room tested; and the lists that its lanes and landmarks are kept in, before and after
 pub record Tested (limits : Counts) (s : Space) (t : List ℕ) (lanes lanes' : LaneLists) (marks marks' : List MarkPlace) (l : PlantLines) : Type 0 where
@@ -78,6 +62,7 @@ pub record TablesWritten (n : ℕ) (ms : List Mark) (before after : Columns) : T
 
 pub record Accepts (room : Room) (t : List ℕ) (before after : Columns) (file : PlantFile) : Type 0 where
   pub plant : Plain
+  pub read_is : read room t ≡ got plant (drop file.end t)
   pub roomy : Roomy room t (drop file.end t) plant
   pub sized : Sized plant file.counts
   pub lines_are : file.lines ≡ 1 + file.counts.lanes + file.counts.landmarks

@@ -1,11 +1,13 @@
 // The lines that give the tables of a plant's landmarks.
-ghost use Rattle.std.specs.Prelude.{◌≡◌, ℕ, ◌+◌, ◌*◌, ◌≤◌, List, ◌++◌, map, length, take, drop};
+ghost use Rattle.std.specs.Prelude.{◌≡◌, ℕ, ◌+◌, ◌*◌, ◌≤◌, List, ◌++◌, map, length, take, drop, None};
+ghost use Rattle.std.specs.Result.{result_err};
 ghost use Rattle.format.specs.Form.{Token as Spelt};
 ghost use Rattle.format.specs.Items.{all, table, mark_form};
 ghost use Rattle.format.specs.Places.{TokensFrom, TokensIn, ValuesAt};
 ghost use Rattle.format.specs.Plain.{Mark as Landmark, to_row, from_row};
 ghost use Rattle.plants.specs.Index.{joined};
-ghost use Rattle.format.specs.Reads.{TookTable, MarkTaken, MarkRead, LinesRead, MarksAt, MarksKept};
+ghost use Rattle.format.specs.Reads.{TookTable, MarkTaken, MarkRead, LinesRead, MarkAt, MarksAt, MarksKept};
+ghost use Rattle.format.specs.Judged.{mark_fault, marks_fault};
 ghost use Rattle.format.specs.Turns.{form, forms};
 
 use crate::counts::Counts;
@@ -86,7 +88,9 @@ fn test_mark(
     lanes: Lanes,
     to: &mut [u32],
     from: &mut [u32],
-) -> Result<(), PlantFault> {
+) -> Result<(), PlantFault>
+    ensures { (k : Landmark) → MarkAt (length to.old) k mark.entry → length from.old ≡ length to.old → result_err result ≡ mark_fault lanes.entry.tails.now lanes.entry.heads.now lanes.entry.costs.now landmark k None }
+{
     fill_values(mark.to, to);
     fill_values(mark.from, from);
     check_landmark(landmark, lanes.tails, lanes.heads, lanes.costs, to, from)
@@ -98,7 +102,9 @@ fn test_each(
     lanes: Lanes,
     to: &mut [u32],
     from: &mut [u32],
-) -> Result<(), PlantFault> {
+) -> Result<(), PlantFault>
+    ensures { (ms : List Landmark) → MarksAt (length to.old) ms marks.now → length from.old ≡ length to.old → result_err result ≡ marks_fault lanes.entry.tails.now lanes.entry.heads.now lanes.entry.costs.now 0 ms }
+{
     for (landmark, mark) in marks.iter().enumerate() {
         test_mark(landmark, *mark, lanes, to, from)?;
     }
@@ -108,6 +114,7 @@ fn test_each(
 // Tests the lanes against the tables of each landmark.
 pub fn test_marks(marks: &[Mark], nodes: usize, lanes: Lanes) -> Result<(), PlantFault>
     requires { nodes ≤ 4096 }
+    ensures { (ms : List Landmark) → MarksAt nodes ms marks.now → result_err result ≡ marks_fault lanes.entry.tails.now lanes.entry.heads.now lanes.entry.costs.now 0 ms }
 {
     // rows of the most nodes that a plant has: fixed memory, since the reader takes none
     let mut to = [0u32; 4096];

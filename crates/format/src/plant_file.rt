@@ -1,7 +1,10 @@
 // Reading a plant file into the caller's lists.
-ghost use Rattle.std.specs.Prelude.{◌≡◌, ◌+◌, ◌≤◌, List, ◌++◌, length, drop, MatchResult};
+ghost use Rattle.std.specs.Prelude.{◌≡◌, ◌+◌, ◌≤◌, true, List, ◌++◌, length, drop, MatchResult};
+ghost use Rattle.std.specs.Result.{result_err};
+ghost use Rattle.plants.specs.Faults.{counts_fit, index_fault};
 ghost use Rattle.plants.specs.Index.{firsts, grouped};
 ghost use Rattle.format.specs.Reader.{Written, TablesWritten, ReadTested, ReadAs, room_of};
+ghost use Rattle.format.specs.Judged.{columns_fault};
 ghost use Rattle.format.specs.Plain.{Mark as Landmark};
 ghost use Rattle.format.specs.Reads.{MarksAt};
 ghost use Rattle.format.specs.Space.{held, after, space_of, Spacious};
@@ -42,7 +45,8 @@ fn fill_index(
     by_head: &mut [u32],
 ) -> Result<(), PlantFault>
     requires { (nodes + 1 ≤ length first_out.old) × ((nodes + 1 ≤ length first_in.old) × (length lanes.tails.now ≤ length by_head.old)) }
-    ensures { MatchResult result (λ _. (first_out.new ≡ firsts nodes lanes.entry.tails.now ++ drop (nodes + 1) first_out.old) × (first_in.new ≡ firsts nodes lanes.entry.heads.now ++ drop (nodes + 1) first_in.old) × (by_head.new ≡ grouped nodes lanes.entry.heads.now ++ drop (length lanes.entry.tails.now) by_head.old)) (λ _. (first_out.new ≡ first_out.old) × (first_in.new ≡ first_in.old) × (by_head.new ≡ by_head.old)) }
+    ensures fault { result_err result ≡ index_fault nodes lanes.entry.tails.now lanes.entry.heads.now (nodes + 1) (nodes + 1) (length lanes.entry.tails.now) }
+    ensures written { MatchResult result (λ _. (first_out.new ≡ firsts nodes lanes.entry.tails.now ++ drop (nodes + 1) first_out.old) × (first_in.new ≡ firsts nodes lanes.entry.heads.now ++ drop (nodes + 1) first_in.old) × (by_head.new ≡ grouped nodes lanes.entry.heads.now ++ drop (length lanes.entry.tails.now) by_head.old)) (λ _. (first_out.new ≡ first_out.old) × (first_in.new ≡ first_in.old) × (by_head.new ≡ by_head.old)) }
 {
     let firsts = nodes as usize + 1;
     let count = lanes.tails.len();
@@ -59,7 +63,8 @@ fn fill_index(
 // Tests the lanes and tables of a plant, and writes it into the lists if no test fails.
 fn settle(nodes: u32, lanes: Lanes, marks: &[Mark], lists: ListsMut) -> Result<(), PlantFault>
     requires { (nodes ≤ 4096) × (Spacious nodes (length marks.now) lanes.tails.now lanes.heads.now lanes.costs.now (space_of (held lists))) }
-    ensures { MatchResult result (λ _. Written nodes lanes.entry.tails.now lanes.entry.heads.now lanes.entry.costs.now (held lists.entry) (after lists.exit) × ((ms : List Landmark) → MarksAt nodes ms marks.now → TablesWritten nodes ms (held lists.entry) (after lists.exit))) (λ _. after lists.exit ≡ held lists.entry) }
+    ensures fault { (ms : List Landmark) → MarksAt nodes ms marks.now → counts_fit nodes (length lanes.entry.tails.now) 0 ≡ true → length lanes.entry.heads.now ≡ length lanes.entry.tails.now → result_err result ≡ columns_fault nodes lanes.entry.tails.now lanes.entry.heads.now lanes.entry.costs.now ms }
+    ensures written { MatchResult result (λ _. Written nodes lanes.entry.tails.now lanes.entry.heads.now lanes.entry.costs.now (held lists.entry) (after lists.exit) × ((ms : List Landmark) → MarksAt nodes ms marks.now → TablesWritten nodes ms (held lists.entry) (after lists.exit))) (λ _. after lists.exit ≡ held lists.entry) }
 {
     let ListsMut {
         tails,

@@ -3,13 +3,13 @@ use Rattle.std.proofs.lemmas.Result.{err_from_is_err_and}
 use Rattle.plants.specs.Faults.{counts_fit}
 use Rattle.format.specs.Reader.{room_of}
 use Rattle.format.specs.Space.{room_for}
-use Rattle.format.proofs.Answered.{counts_refused, counts_kept, sized_counts, sized_room, refuses_line, placed_fault, placed_none, refuses_counts, refuses_short}
+use Rattle.format.proofs.Answered.{counts_refused, counts_kept, sized_counts, sized_room, read_lost, placed_fault, placed_none, refuses_counts, refuses_short}
 use Rattle.format.proofs.plant_file.read_tested.Goals as goal
 
 pub returns-in_err-read : goal.returns-in_err-read
 returns-in_err-read c =
     let e = err_from_is_err_and c.from_residual.result c.from_residual.ensures.1 in
-    rw (e.1, e.2) (λ lists _. refuses_line (room_of c.args.room lists) c.args.text.now _ c.in_err-read.ensures)
+    rw (e.1, e.2) (λ lists _. read_lost (room_of c.args.room lists) c.args.text.now _ c.in_err-read.ensures)
 
 pub returns-in_err-with_lanes : goal.returns-in_err-with_lanes
 returns-in_err-with_lanes c =
