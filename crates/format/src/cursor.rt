@@ -32,7 +32,7 @@ fn run<F: Fn(u8) -> bool>(text: &[u8], test: F) -> &[u8]
     requires { F.IsAlwaysCallable test }
     ensures { (k : Kind) → TestsFor (λ c b. F.post test c b) k → result.now ≡ front k text.now }
 {
-    // a loop, since `position` would hand the test on by reference
+    // tried by `position`: that its closure answers by the test did not reach the proof
     for (i, c) in text.iter().enumerate() {
         if !test(*c) {
             return &text[..i];
@@ -100,7 +100,7 @@ impl<'a> Cursor<'a> {
         }
     }
 
-    // A table's value: a number, or a hyphen for beyond.
+    // A table's value: a number, or a hyphen for beyond. Beside `number`, an arm more: over it, a token would be put back.
     pub fn value(&mut self) -> Option<u32>
         ensures { (ts : List Spelt) → TokensFrom self.old ts → TookNumber self.new (a_value ts) result }
     {

@@ -105,7 +105,7 @@ impl From<ReadFault> for Refusal {
 }
 
 impl ReadFault {
-    // How the fault is told.
+    // How the fault is told; public, so it stays beside `From`.
     pub fn refusal(self) -> Refusal
         ensures { result ≡ read_refusal self }
     {

@@ -10,7 +10,7 @@ use crate::line::{Whole, read_whole};
 use crate::token::Line;
 use arrayvec::ArrayVec;
 
-// The lanes of a plant, by column. `L` is how a column is held.
+// The lanes of a plant, by column, as the tests of a plant and its index take them. `L` is how a column is held.
 #[derive(Clone, Copy, Drop)]
 pub struct LanesOf<L> {
     pub tails: L,
@@ -84,6 +84,7 @@ pub fn read_lanes(
     ensures { LinesRead text.now count (λ ls. LanesKept ls lanes.old lanes.new) (forms lane_form count 2 (drop from text.now)) result }
 {
     let mut at = from;
+    // k numbers the line, and indexes nothing
     for k in 0..count as usize {
         let line = Line {
             text,

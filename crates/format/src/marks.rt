@@ -68,6 +68,7 @@ pub fn read_marks<'a>(
     ensures { LinesRead text.now counts.landmarks (λ ms. MarksKept counts.nodes ms marks.old.items marks.new.items) (forms (mark_form counts.nodes) counts.landmarks (2 + counts.lanes) (drop from text.now)) result }
 {
     let mut at = from;
+    // m numbers the line, and indexes nothing
     for m in 0..counts.landmarks as usize {
         let line = Line {
             text,
@@ -135,7 +136,7 @@ pub fn fill_tables(marks: &[Mark], nodes: usize, to: &mut [u32], from: &mut [u32
     requires { (length marks.now * nodes ≤ length to.old) × (length marks.now * nodes ≤ length from.old) }
     ensures { (ms : List Landmark) → MarksAt nodes ms marks.now → (to.new ≡ joined (map to_row ms) ++ drop (length ms * nodes) to.old) × (from.new ≡ joined (map from_row ms) ++ drop (length ms * nodes) from.old) }
 {
-    // by number: the tables may be longer than their rows, so they are no zip of chunks
+    // by number: after a zip with `chunks_exact_mut` a proof knows nothing of what it wrote
     for (m, mark) in marks.iter().enumerate() {
         fill_row(mark.to, to, m * nodes, nodes);
         fill_row(mark.from, from, m * nodes, nodes);

@@ -9,6 +9,7 @@ pub fn number(text: &[u8]) -> Option<u32>
     if text.len() > 1 && text[0] == b'0' {
         return None;
     }
+    // no `parse`: the greatest number is refused too, and the text is bytes
     let mut n: u64 = 0;
     for digit in text {
         n = 10 * n + u64::from(digit.saturating_sub(b'0'));

@@ -1,4 +1,4 @@
-// What a lane plant is to be made from, before any test.
+// What a lane plant is to be made from, before any test: its fields, without its invariant.
 use crate::lists::Lists;
 
 #[derive(Clone, Copy)]

@@ -70,7 +70,7 @@ fn call_two<P: Plant>(
     })
 }
 
-// Makes a call; a route is written from `at` on.
+// Makes a call; a route is written from `at` on. That the plant below and the areas stay is a fact of two values, and no type's.
 pub(crate) fn call_on<P: Plant>(
     shift: &mut Shift<P>,
     call: Call,

@@ -59,7 +59,7 @@ fn scan_all<P: Plant>(side: &mut Side<P>) -> Ending<P::Cost>
     }
 }
 
-// Scans from `start` on.
+// Scans from `start` on. Its facts are the call's, as in `find`.
 pub(crate) fn run<P: Plant>(
     plant: &P,
     start: u32,

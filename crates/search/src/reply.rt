@@ -29,7 +29,7 @@ impl From<ShiftFault> for CallFault {
     }
 }
 
-// What a call has done. The nodes of a route stand in the list of routes from the place `from` on.
+// What a call has done. The nodes of a route stand in the list of routes from the place `from` on: the list is the caller's.
 #[derive(Clone, Copy, PartialEq, Eq, Debug)]
 pub enum Done<C> {
     Closed(u32),

@@ -9,7 +9,7 @@ use cost::kind::CostKind;
 use plant::layers::turned::Turned;
 use plant::plant::Plant;
 
-// Writes the nodes from `start` over `via` to `goal`, and counts them.
+// Writes the nodes from `start` over `via` to `goal`, and counts them. Its facts are those that the call has tested.
 pub(crate) fn write_both<P: Plant>(
     plant: &P,
     start: u32,

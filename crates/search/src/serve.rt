@@ -41,7 +41,7 @@ fn call_all<P: Plant>(
     ensures life { closed_list shift.old ≡ [] → Life P.Cost.CostKind.kind (P.Plant.floor shift.old.below) (lengths areas.old) calls.now (take (length calls.now) replies.new) areas.new.routes.now × Held (past calls.now (take (length calls.now) replies.new) (length calls.now)) (closed_list shift.new) }
 {
     let mut at = 0;
-    // by index: after a zip with `iter_mut` a proof knows nothing of the list
+    // by index: after a zip with `iter_mut` a proof knows nothing of what it wrote
     for (i, call) in calls.iter().enumerate() {
         let reply = call_on(shift, *call, at, areas);
         put_reply(replies, i, reply);

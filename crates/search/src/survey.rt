@@ -27,7 +27,7 @@ fn write_labels<C: CostKind>(rows: &[Row<C>], costs: &mut [C])
     }
 }
 
-// The survey over as many rows as there are nodes.
+// The survey over as many rows as there are nodes. Its facts are those that the call has tested.
 fn explore<P: Plant>(
     plant: &P,
     start: u32,

@@ -30,6 +30,7 @@ impl From<SearchFault> for Refusal {
 }
 
 impl SearchFault {
+    // public, so it stays beside `From`
     pub fn refusal(self) -> Refusal
         ensures { result ≡ refusal_of self }
     {
@@ -49,6 +50,7 @@ impl From<CallFault> for Refusal {
 }
 
 impl CallFault {
+    // public, so it stays beside `From`
     pub fn refusal(self) -> Refusal
         ensures { result ≡ call_refusal_of self }
     {

@@ -28,6 +28,7 @@ fn first_meeting<C: CostKind>(start: u32, goal: u32) -> Meeting<C>
 }
 
 // Searches from `start` and, over the lanes turned round, from `goal`: by turns, the near side's first, until a side has none.
+// Its facts are those that the call has tested.
 pub(crate) fn run_both<P: Plant>(
     plant: &P,
     start: u32,

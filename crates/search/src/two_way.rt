@@ -20,7 +20,7 @@ use cost::kind::CostKind;
 use plant::plant::Plant;
 
 // The search over as many rows of each side as there are nodes. As in `one_way`, its facts are those that the call has tested.
-// Beside `find` of the one-way search: the two run, count and write by other functions, and share the test of beyond alone.
+// Beside `find` of the one-way search: the two run, count and write by other functions; what they share is the test of beyond and how an answer is made.
 fn find_both<P: Plant>(
     plant: &P,
     start: u32,
