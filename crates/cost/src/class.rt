@@ -21,7 +21,6 @@ impl From<u8> for Class {
 }
 
 impl Class {
-    // public, so it stays beside `From`
     pub fn of(grade: u8) -> Class
         ensures { result.grade ≡ grade }
     {

@@ -20,7 +20,6 @@ impl From<u32> for Length {
 }
 
 impl Length {
-    // public, so it stays beside `From`
     pub fn of(metres: u32) -> Length
         ensures { result.metres ≡ metres }
     {

@@ -1,4 +1,4 @@
-// What a lane plant is to be made from, before any test: its fields, without its invariant.
+// What a lane plant is to be made from, before any test.
 use crate::lists::Lists;
 
 #[derive(Clone, Copy)]

@@ -29,7 +29,6 @@ impl From<PlantFault> for Refusal {
 
 impl PlantFault {
     // How the fault is told.
-    // public, so it stays beside `From`
     pub fn refusal(self) -> Refusal
         ensures { result ≡ refusal_of self }
     {

@@ -83,7 +83,6 @@ impl From<ShiftFault> for Refusal {
 }
 
 impl ShiftFault {
-    // public, so it stays beside `From`
     pub fn refusal(self) -> Refusal
         ensures { result ≡ refusal_of self }
     {
