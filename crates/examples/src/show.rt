@@ -47,7 +47,7 @@ impl<C: Printed> fmt::Display for Found<'_, C> {
     }
 }
 
-// Finds a least route over a plant, and prints it with the list that it is written into.
+// Finds a least route over a plant of at most six nodes and 24 lanes, and prints it with the list that it is written into.
 pub fn route_on<P: Plant<Cost: Printed>>(
     rt: &HostRuntime,
     plant: &P,
@@ -55,18 +55,9 @@ pub fn route_on<P: Plant<Cost: Printed>>(
     goal: u32,
     list: &mut [u32],
 ) -> io::Result<()> {
-    let nodes = plant.node_count() as usize;
-    let entries = (plant.lane_count() as usize).saturating_add(1);
-    let mut rows = vec![in rt.alloc(); blank_row(); nodes]?;
-    let mut queue = vec![in rt.alloc(); no_entry(); entries]?;
-    match one_way(
-        plant,
-        start,
-        goal,
-        rows.as_mut_slice(),
-        queue.as_mut_slice(),
-        list,
-    ) {
+    let mut rows = [blank_row(); 6];
+    let mut queue = [no_entry(); 25];
+    match one_way(plant, start, goal, &mut rows, &mut queue, list) {
         Ok(answer) => {
             let found = Found { answer, list };
             println!(rt; "{start} to {goal}: {found}")
