@@ -4,13 +4,12 @@ ghost use Rattle.cost.specs.Classes.{class_laws, class_ordered};
 
 use crate::class::Class;
 use crate::kind::CostKind;
+use crate::ordered_kind::OrderedKind;
 
 impl CostKind for Class {
     ghost kind = { class_kind };
 
     ghost lawful = { class_laws };
-
-    ghost ordered = { class_ordered };
 
     fn zero() -> Class {
         Class { grade: 0 }
@@ -18,6 +17,10 @@ impl CostKind for Class {
 
     fn beyond() -> Class {
         Class { grade: u8::MAX }
+    }
+
+    fn at_most(self, other: Class) -> bool {
+        self <= other
     }
 
     fn join(self, other: Class) -> Class {
@@ -30,4 +33,8 @@ impl CostKind for Class {
         }
         self
     }
+}
+
+impl OrderedKind for Class {
+    ghost ordered = { class_ordered };
 }

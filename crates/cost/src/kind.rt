@@ -1,10 +1,9 @@
 // The trait of cost kinds: operations, each an equation with the kind's ghost record, and the laws.
 ghost use Rattle.std.specs.Prelude.{◌≡◌};
-ghost use Rattle.std.specs.Ordering.{is_le};
 ghost use Rattle.cost.specs.Kind.{Kind, Laws};
 
 // A value that routes are compared by. `beyond` is the cost that no route has.
-pub trait CostKind: Ord + Copy {
+pub trait CostKind: Copy {
     ghost kind: { Kind Self };
 
     fn zero() -> Self
@@ -12,6 +11,9 @@ pub trait CostKind: Ord + Copy {
 
     fn beyond() -> Self
         ensures { result ≡ kind.beyond };
+
+    fn at_most(self, other: Self) -> bool
+        ensures { result ≡ kind.at_most self other };
 
     // The cost of one part of a route and then another.
     fn join(self, other: Self) -> Self
@@ -21,15 +23,5 @@ pub trait CostKind: Ord + Copy {
     fn rest(self, other: Self) -> Self
         ensures { result ≡ kind.rest self other };
 
-    // Searches ask by this and not by `<=`: its clause is the kind's own test, by which their steps are stated.
-    fn at_most(self, other: Self) -> bool
-        ensures { result ≡ kind.at_most self other }
-    {
-        self <= other
-    }
-
     ghost lawful: { Laws kind };
-
-    // The kind's order is that of its type.
-    ghost ordered: { (a b : Self) → kind.at_most a b ≡ is_le (Self.Ord.cmp a b) };
 }

@@ -4,13 +4,12 @@ ghost use Rattle.cost.specs.Lengths.{length_laws, length_ordered};
 
 use crate::kind::CostKind;
 use crate::length::Length;
+use crate::ordered_kind::OrderedKind;
 
 impl CostKind for Length {
     ghost kind = { length_kind };
 
     ghost lawful = { length_laws };
-
-    ghost ordered = { length_ordered };
 
     fn zero() -> Length {
         Length { metres: 0 }
@@ -18,6 +17,10 @@ impl CostKind for Length {
 
     fn beyond() -> Length {
         Length { metres: u32::MAX }
+    }
+
+    fn at_most(self, other: Length) -> bool {
+        self <= other
     }
 
     fn join(self, other: Length) -> Length {
@@ -31,4 +34,8 @@ impl CostKind for Length {
             metres: self.metres.saturating_sub(other.metres),
         }
     }
+}
+
+impl OrderedKind for Length {
+    ghost ordered = { length_ordered };
 }

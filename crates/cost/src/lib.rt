@@ -6,3 +6,4 @@ pub mod class_kind;
 pub mod kind;
 pub mod length;
 pub mod length_kind;
+pub mod ordered_kind;

@@ -8,6 +8,13 @@ use search::rows::blank_row;
 use search::survey::survey_from;
 use std::io;
 
+// Finds the least class from one cell to another of a hall of six cells, and prints it.
+fn route_six(rt: &HostRuntime, hall: &Hall, start: u32, goal: u32) -> io::Result<()> {
+    let mut rows = [blank_row(); 6];
+    let mut queue = [no_entry(); 25];
+    route_on(rt, hall, start, goal, &mut rows, &mut queue, &mut [0; 6])
+}
+
 // Prints the least class from a cell to every other of a hall of six cells.
 fn survey_six(rt: &HostRuntime, hall: &Hall, start: u32) -> io::Result<()> {
     let mut rows = [blank_row(); 6];
@@ -33,7 +40,7 @@ pub fn whole(rt: &HostRuntime) -> io::Result<()> {
     let mut hall = one_cell();
     match make_hall(&mut hall, 2, 3, &cells) {
         Ok(()) => {
-            route_on(rt, &hall, 0, 2, &mut [0; 6])?;
+            route_six(rt, &hall, 0, 2)?;
             survey_six(rt, &hall, 0)
         }
         Err(_) => Ok(()),
@@ -48,8 +55,8 @@ pub fn in_two(rt: &HostRuntime) -> io::Result<()> {
     let cells = [1, 255, 2, 1, 255, 2];
     match Hall::new(2, 3, &cells) {
         Ok(hall) => {
-            route_on(rt, &hall, 0, 2, &mut [0; 6])?;
-            route_on(rt, &hall, 0, 3, &mut [0; 6])
+            route_six(rt, &hall, 0, 2)?;
+            route_six(rt, &hall, 0, 3)
         }
         Err(_) => Ok(()),
     }

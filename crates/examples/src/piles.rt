@@ -1,27 +1,43 @@
 // Piles: a shift over a turned plant over a shift over a blind one.
 use crate::show::route_on;
+use cost::length::Length;
 use plant::layers::blind::Blind;
 use plant::layers::shift::Shift;
 use plant::layers::turned::Turned;
+use plant::plant::Plant;
 use plants::index::index;
 use plants::lane_plant::LanePlant;
 use plants::lists::Lists;
 use plants::make::{lone, make};
+use search::entry::no_entry;
+use search::rows::blank_row;
 use std::io;
+
+// Finds a least route over any plant of at most four nodes and five lanes, and prints it.
+pub fn route_four<P: Plant<Cost = Length>>(
+    rt: &HostRuntime,
+    plant: &P,
+    start: u32,
+    goal: u32,
+) -> io::Result<()> {
+    let mut rows = [blank_row(); 4];
+    let mut queue = [no_entry(); 6];
+    route_on(rt, plant, start, goal, &mut rows, &mut queue, &mut [0; 4])
+}
 
 // Closes a lane below and another above, turns the floor round, and searches it from its end to its start.
 fn layered(rt: &HostRuntime, plant: &LanePlant) -> io::Result<()> {
-    route_on(rt, plant, 0, 3, &mut [0; 4])?;
+    route_four(rt, plant, 0, 3)?;
     let mut low = Shift::fresh(Blind { below: plant });
     let closed = low.close(2).is_ok();
-    route_on(rt, &low, 0, 3, &mut [0; 4])?;
+    route_four(rt, &low, 0, 3)?;
     let mut high = Shift::fresh(Turned { below: &low });
     let both = high.close(1).is_ok();
     println!(rt; "closed {closed} {both}")?;
-    route_on(rt, &high, 3, 0, &mut [0; 4])?;
+    route_four(rt, &high, 3, 0)?;
     let reopened = high.reopen(1).is_ok();
     println!(rt; "reopened {reopened}")?;
-    route_on(rt, &high, 3, 0, &mut [0; 4])
+    route_four(rt, &high, 3, 0)
 }
 
 // The floor, with its lanes by number:

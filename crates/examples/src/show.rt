@@ -4,9 +4,9 @@ use cost::kind::CostKind;
 use cost::length::Length;
 use plant::plant::Plant;
 use search::answer::{Answer, Route};
-use search::entry::no_entry;
+use search::entry::Entry;
 use search::one_way::one_way;
-use search::rows::blank_row;
+use search::row::Row;
 use std::{fmt, io};
 
 // A kind of cost that can be printed, with its unit.
@@ -47,26 +47,17 @@ impl<C: Printed> fmt::Display for Found<'_, C> {
     }
 }
 
-// Finds a least route over a plant, and prints it with the list that it is written into.
+// Finds a least route over a plant, in areas of the caller, and prints it with the list that it is written into.
 pub fn route_on<P: Plant<Cost: Printed>>(
     rt: &HostRuntime,
     plant: &P,
     start: u32,
     goal: u32,
+    rows: &mut [Row<P::Cost>],
+    queue: &mut [Entry<P::Cost>],
     list: &mut [u32],
 ) -> io::Result<()> {
-    let nodes = plant.node_count() as usize;
-    let entries = (plant.lane_count() as usize).saturating_add(1);
-    let mut rows = vec![in rt.alloc(); blank_row(); nodes]?;
-    let mut queue = vec![in rt.alloc(); no_entry(); entries]?;
-    match one_way(
-        plant,
-        start,
-        goal,
-        rows.as_mut_slice(),
-        queue.as_mut_slice(),
-        list,
-    ) {
+    match one_way(plant, start, goal, rows, queue, list) {
         Ok(answer) => {
             let found = Found { answer, list };
             println!(rt; "{start} to {goal}: {found}")

@@ -1,5 +1,5 @@
 // Equal routes, where the smaller node number decides; and the plant of one node.
-use crate::show::route_on;
+use crate::piles::route_four;
 use plants::lane_plant::LanePlant;
 use plants::lists::Lists;
 use plants::make::lone;
@@ -21,12 +21,12 @@ pub fn equal(rt: &HostRuntime) -> io::Result<()> {
         from: &[],
     };
     match LanePlant::new(4, 0, lists) {
-        Ok(plant) => route_on(rt, &plant, 0, 3, &mut [0; 4]),
+        Ok(plant) => route_four(rt, &plant, 0, 3),
         Err(_) => Ok(()),
     }
 }
 
 pub fn one_node(rt: &HostRuntime) -> io::Result<()> {
     let plant = lone();
-    route_on(rt, &plant, 0, 0, &mut [0; 4])
+    route_four(rt, &plant, 0, 0)
 }

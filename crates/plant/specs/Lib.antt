@@ -5,3 +5,4 @@ pub mod Shifted
 pub mod FloorFacts
 pub mod LayerFacts
 pub mod Layers
+pub mod FloorKnown

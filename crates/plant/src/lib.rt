@@ -5,4 +5,6 @@ pub mod lane;
 pub mod layers;
 pub mod lent;
 pub mod plant;
+pub mod questions;
 pub mod refusal;
+pub mod sound;

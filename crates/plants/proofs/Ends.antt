@@ -45,6 +45,12 @@ module _ (nodes landmarks : ℕ) (c : Columns) (s : Lawful nodes landmarks c) wh
   into_is : (v : ℕ) → into-list v ≡ places 0 c.heads v
   into_is v = head_places 0 c.tails c.heads c.costs v s.heads_size s.costs_size
 
+  pub out_rises : (v : ℕ) → v < nodes → get_or c.first_out v 0 ≤ get_or c.first_out (v + 1) 0
+  out_rises v lt = let p = span nodes c.first_out c.tails v s.outs lt in omega (arith, p.count)
+
+  pub into_rises : (v : ℕ) → v < nodes → get_or c.first_in v 0 ≤ get_or c.first_in (v + 1) 0
+  into_rises v lt = let p = span nodes c.first_in c.heads v s.ins lt in omega (arith, p.count)
+
   pub into_within : (v : ℕ) → v < nodes → get_or c.first_in (v + 1) 0 ≤ length c.by_head
   into_within v lt = let p = span nodes c.first_in c.heads v s.ins lt in omega (arith, p.within, s.heads_size, s.by_size)
 

@@ -1,13 +1,13 @@
 -- The lanes into a node of a hall.
-use Rattle.std.proofs.Common.{◌≡◌, ℕ, zero, suc, ◌+◌, ◌-◌, ◌*◌, ◌/◌, ◌%◌, ◌<◌, ◌≤◌, Bool, true, false, cond, not, ltb, List, [], ◌∷◌, map, Some, None, Option, sym, refl, ap, ◌∙◌, subst, ⊎_elim, arith}
-use Rattle.std.specs.List.{slice_get, filter_map}
+use Rattle.std.proofs.Common.{◌≡◌, ℕ, zero, suc, ◌+◌, ◌-◌, ◌*◌, ◌/◌, ◌%◌, ◌<◌, ◌≤◌, Bool, true, false, cond, not, ltb, List, [], ◌∷◌, Some, None, sym, refl, ap, ◌∙◌, subst, ⊎_elim, arith}
+use Rattle.std.specs.List.{slice_get}
 use Rattle.std.proofs.lemmas.Bool.{cases_Bool, ltb-true, leb-true, lt-ltb, le-leb, not-true, not_from_false, cond-true, cond-false}
 use Rattle.cost.specs.declared.class.Class.{Class}
 use Rattle.plant.specs.declared.lane.Lane.{Lane}
 use Rattle.plant.specs.Floor.{into_of}
 use Rattle.plants.specs.Hall.{has_north, has_east, has_south, has_west, neighbour, lane_to, hall_lane, grid}
 use Rattle.plants.specs.Picked.{Among, Listed, picked}
-use Rattle.plants.proofs.Slots.{Slot, slot, kept, offered, kept_offered, among_slots, listed_slot}
+use Rattle.plants.proofs.Slots.{Slot, slot, kept, before, one_if, one_if_not, slot_at, slots_past, among_slots, listed_slot}
 use Rattle.plants.specs.HallSides.{Rows, west_below, east_below, more_columns}
 use Rattle.plants.specs.HallLanes.{lane_at, head_in}
 
@@ -23,6 +23,16 @@ into_slots nodes columns v =
     ∷ slot (has_east columns v) (4 * (v + 1) + 3)
     ∷ slot (has_south nodes columns v) (4 * (v + columns))
     ∷ []
+
+-- on each side there is a neighbour or an edge
+pub record Edges (nodes columns v : ℕ) : Type 0 where
+  pub north : one_if (has_north columns v) + one_if (not (has_north columns v)) ≡ 1
+  pub east : one_if (has_east columns v) + one_if (not (has_east columns v)) ≡ 1
+  pub south : one_if (has_south nodes columns v) + one_if (not (has_south nodes columns v)) ≡ 1
+  pub west : one_if (has_west columns v) + one_if (not (has_west columns v)) ≡ 1
+
+edges : (nodes columns v : ℕ) → Edges nodes columns v
+edges nodes columns v = record { north = one_if_not _; east = one_if_not _; south = one_if_not _; west = one_if_not _ }
 
 -- where a lane leads, whose side has a neighbour or not
 module _ (cells : List ℕ) (v : ℕ) (b : Bool) (w : ℕ) where
@@ -130,8 +140,12 @@ module _ (nodes columns : ℕ) (cells : List ℕ) (rows : Rows nodes columns) wh
         picked (λ l. l.head) (hall_lane nodes columns cells) v (4 * nodes) 0 (4 * nodes) (kept slots) (omega arith) listed
         (λ i low lt to. came (i / 4) (i % 4) i (omega arith) (omega arith) (omega arith) to)
 
-    pub into_offered : (os : List (Option ℕ)) → os ≡ map offered slots → filter_map (λ o. o) os ≡ into_of (grid nodes columns cells) v
-    into_offered os e = ap (filter_map (λ o. o)) e ∙ kept_offered slots ∙ sym into_is
+    -- the lane of slot n, where j of the slots before it are filled, and it is too
+    pub into_at : (n j : ℕ) (s : Slot) → slice_get slots n ≡ Some s → (Edges nodes columns v → (before n slots ≤ j) × (j < before (suc n) slots)) → slice_get (into_of (grid nodes columns cells) v) j ≡ Some s.number
+    into_at n j s e within = let r = within (edges nodes columns v) in ap (λ l. slice_get l j) into_is ∙ slot_at n j slots s e r.0 r.1
+
+    pub into_past : (j : ℕ) → 4 ≤ j → slice_get (into_of (grid nodes columns cells) v) j ≡ None
+    into_past j le = let r = edges nodes columns v in ap (λ l. slice_get l j) into_is ∙ slots_past j slots (omega arith)
 
   pub into_outside : (v j : ℕ) → nodes ≤ v → slice_get (into_of (grid nodes columns cells) v) j ≡ None
   into_outside v j past =

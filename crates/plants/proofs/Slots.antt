@@ -1,7 +1,8 @@
 -- Slots: numbers, each of which stands in a list or not.
-use Rattle.std.proofs.Common.{◌≡◌, ℕ, zero, suc, ◌<◌, ◌≤◌, Bool, true, false, cond, not, List, [], ◌∷◌, map, Some, None, Option, sym, refl, ap, ◌∙◌, inl, inr, arith}
-use Rattle.std.specs.List.{slice_get, filter_map, cons_option}
-use Rattle.std.specs.Option.{option_map, is_none}
+use Rattle.std.proofs.Common.{◌≡◌, ℕ, zero, suc, ◌+◌, ◌-◌, ◌<◌, ◌≤◌, Bool, true, false, not, List, [], ◌∷◌, length, Some, None, sym, refl, ap, ◌∙◌, inl, inr, arith}
+use mir.Val.{bool_byte}
+use Rattle.std.specs.List.{slice_get}
+use Rattle.std.proofs.lemmas.Option.{slice_get_past}
 use Rattle.std.proofs.lemmas.Bool.{false≢true}
 use Rattle.plants.specs.Picked.{Among, Listed}
 
@@ -21,31 +22,46 @@ abbrev pub kept : List Slot → List ℕ
 kept [] = []
 kept (s ∷ ss) = put s.filled s.number (kept ss)
 
--- a number that is there, or none
-abbrev pub offered : Slot → Option ℕ
-offered s = cond s.filled (Some s.number) None
+-- 1 or 0, as a cast has it
+abbrev pub one_if : Bool → ℕ
+one_if b = bool_byte b
 
-put_offered : (b : Bool) (k : ℕ) (ks : List ℕ) → cons_option (cond b (Some k) None) ks ≡ put b k ks
-put_offered true k ks = refl
-put_offered false k ks = refl
+-- how many of the first n slots are filled
+abbrev pub before : ℕ → List Slot → ℕ
+before zero ss = 0
+before (suc n) [] = 0
+before (suc n) (s ∷ ss) = one_if s.filled + before n ss
 
-pub kept_offered : (ss : List Slot) → filter_map (λ o. o) (map offered ss) ≡ kept ss
-kept_offered [] = refl
-kept_offered (s ∷ ss) = put_offered s.filled s.number (filter_map (λ o. o) (map offered ss)) ∙ ap (put s.filled s.number) (kept_offered ss)
+pub one_if_not : (b : Bool) → one_if b + one_if (not b) ≡ 1
+one_if_not true = refl
+one_if_not false = refl
 
--- what is made of a number that is there, and of none
-module _ (b : Bool) (u : ℕ) (to : Option ℕ) (is : to ≡ cond b (Some u) None) where
-  pub offered_from : (f : ℕ → ℕ) (r : Option ℕ) → r ≡ option_map f to → r ≡ cond b (Some (f u)) None
-  offered_from f r e = e ∙ ap (option_map f) is ∙ go b where
-    go : (x : Bool) → option_map f (cond x (Some u) None) ≡ cond x (Some (f u)) None
-    go true = refl
-    go false = refl
+first_of : (b : Bool) (k : ℕ) (ks : List ℕ) (j : ℕ) → j < one_if b → slice_get (put b k ks) j ≡ Some k
+first_of true k ks j lt = let e : j ≡ 0 = omega arith in ap (slice_get (k ∷ ks)) e
+first_of false k ks j lt = absurd (omega arith)
 
-  pub offered_else : (k : ℕ) (r : Option ℕ) → r ≡ cond (is_none to) (Some k) None → r ≡ cond (not b) (Some k) None
-  offered_else k r e = e ∙ ap (λ (o : Option ℕ). cond (is_none o) (Some k) None) is ∙ go b where
-    go : (x : Bool) → cond (is_none (cond x (Some u) None)) (Some k) None ≡ cond (not x) (Some k) None
-    go true = refl
-    go false = refl
+past_first : (b : Bool) (k : ℕ) (ks : List ℕ) (j : ℕ) → one_if b ≤ j → slice_get (put b k ks) j ≡ slice_get ks (j - one_if b)
+past_first true k ks j le = let e : j ≡ suc (j - 1) = omega arith in ap (slice_get (k ∷ ks)) e
+past_first false k ks j le = let e : j ≡ j - 0 = omega arith in ap (slice_get ks) e
+
+-- a filled slot's number stands after those of the filled slots before it
+pub slot_at : (n j : ℕ) (ss : List Slot) (s : Slot) → slice_get ss n ≡ Some s → before n ss ≤ j → j < before (suc n) ss → slice_get (kept ss) j ≡ Some s.number
+slot_at n j [] s e low high = let z : ◌≡◌ {A = ℕ} 0 1 = cc in absurd (omega arith)
+slot_at zero j (t ∷ ss) s e low high =
+    let same : t ≡ s = cc in first_of t.filled t.number (kept ss) j (omega arith) ∙ ap (λ (x : Slot). Some x.number) same
+slot_at (suc n) j (t ∷ ss) s e low high =
+    past_first t.filled t.number (kept ss) j (omega arith) ∙ slot_at n (j - one_if t.filled) ss s e (omega arith) (omega arith)
+
+put-length : (b : Bool) (k : ℕ) (ks : List ℕ) → length (put b k ks) ≡ one_if b + length ks
+put-length true k ks = omega arith
+put-length false k ks = omega arith
+
+kept_length : (ss : List Slot) → length (kept ss) ≡ before (length ss) ss
+kept_length [] = refl
+kept_length (s ∷ ss) = put-length s.filled s.number (kept ss) ∙ ap (λ n. one_if s.filled + n) (kept_length ss)
+
+pub slots_past : (j : ℕ) (ss : List Slot) → before (length ss) ss ≤ j → slice_get (kept ss) j ≡ None
+slots_past j ss le = slice_get_past (kept ss) j (omega (arith, kept_length ss))
 
 among_first : (b : Bool) (k i : ℕ) (ks : List ℕ) → b ≡ true → i ≡ k → Among i (put b k ks)
 among_first true k i ks f e = inl e

@@ -38,11 +38,11 @@ impl Plant for LanePlant<'_> {
     }
 
     fn out_lane(&self, v: u32, j: u32) -> Option<u32> {
-        nth_place(self.lists.first_out, v, j)
+        nth_place(self.lists.first_out, self.nodes, v, j)
     }
 
     fn into_lane(&self, v: u32, j: u32) -> Option<u32> {
-        let place = nth_place(self.lists.first_in, v, j)?;
+        let place = nth_place(self.lists.first_in, self.nodes, v, j)?;
         Some(self.lists.by_head[place as usize])
     }
 
@@ -60,15 +60,24 @@ impl Plant for LanePlant<'_> {
     }
 }
 
-// The place of the `j`-th lane at node `v`, where `firsts` has the place of the first at each node.
-fn nth_place(firsts: &[u32], v: u32, j: u32) -> Option<u32>
+// The place of the `j`-th lane at node `v`, where `firsts` has the place of the first at each of so many nodes.
+fn nth_place(firsts: &[u32], nodes: u32, v: u32, j: u32) -> Option<u32>
+    requires size { length firsts.now ≡ nodes + 1 }
+    requires rises { v < nodes → slice_index firsts.now v ≤ slice_index firsts.now (v + 1) }
     ensures some { IfSome result (λ place. (v + 1 < length firsts.now) × (place ≡ slice_index firsts.now v + j) × (place < slice_index firsts.now (v + 1))) }
     ensures none { IfNone result (v + 1 < length firsts.now → slice_index firsts.now (v + 1) ≤ slice_index firsts.now v + j) }
 {
+    if v >= nodes {
+        return None;
+    }
     let v = v as usize;
-    let first = *firsts.get(v)?;
-    let past = *firsts.get(v + 1)?;
-    first.checked_add(j).filter(|place| *place < past)
+    let first = firsts[v];
+    let past = firsts[v + 1];
+    if j < past - first {
+        Some(first + j)
+    } else {
+        None
+    }
 }
 
 // The greater of how much further `v` is to a landmark than `w`, and `w` from it than `v`, by the landmark's own tables.

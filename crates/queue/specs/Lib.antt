@@ -1,2 +1,3 @@
 pub mod Order
+pub mod Rank
 pub mod Held

@@ -1,13 +1,13 @@
--- The order of entries is total and chains, and is what entries derive.
+-- The order of entries is total and chains, and is what their comparison of three outcomes says.
 use Rattle.std.specs.Prelude.{◌≡◌, ◌≤◌, List, Bool, true, false, not, cond, ◌&&◌, ◌||◌, ◌⊎◌, ◌≢◌, nat_le, refl}
 use Rattle.std.specs.List.{AllByRecursion}
-use Rattle.std.specs.Cmp.{IsTotalOrder}
+use Rattle.std.specs.Cmp.{IsTotalOrder, nat_cmp_total, on_total, then_total}
 use Rattle.std.specs.Ordering.{is_le, ordering_reverse, ordering_then, nat_cmp}
 use Rattle.std.specs.declared.cmp.Ordering.{Ordering}
 use Rattle.std.specs.declared.cmp.Ordering.TheVariants.{Less, Equal, Greater}
 use Rattle.std.proofs.Common.{sym, ap, subst, ◌∙◌, arith}
 use Rattle.std.proofs.Math.Logic.{inl, inr}
-use Rattle.std.proofs.lemmas.Bool.{cases_Bool, both_ways, or_cases, or_parts, or_left, or_right, and_parts, and_cases, and_from, not_from_false, cond-true, cond-false, leb-true, leb-false, le-leb}
+use Rattle.std.proofs.lemmas.Bool.{cases_Bool, both_ways, or_cases, or_parts, or_left, or_right, and_parts, and_cases, and_from, cond-true, cond-false, leb-true, leb-false, le-leb}
 use Rattle.cost.specs.Kind.{Kind, Laws}
 use Rattle.cost.specs.Ordered.{nat_ordered}
 use Rattle.queue.specs.Held.{Heaped}
@@ -16,7 +16,7 @@ use Rattle.queue.specs.declared.heap.Queue.{Queue}
 use Rattle.search.specs.declared.entry.Entry.{Entry}
 use Rattle.search.specs.Rows.{below}
 use Rattle.search.specs.Steps.{earlier, ahead_of}
-use Rattle.search.specs.Order.{Le, le_trans, le_eq, below_le, below_not, not_below}
+use Rattle.search.specs.Order.{kind_cmp, kind_total, le_eq, below_le, below_not, below_trans, not_below}
 
 module _ {C : Type 0} (k : Kind C) (laws : Laws k) where
   -- a comes before b: by key, or by label where the keys are equal
@@ -36,19 +36,16 @@ module _ {C : Type 0} (k : Kind C) (laws : Laws k) where
   from_before a b (inl p) = or_left (below k a.key b.key) (k.at_most a.key b.key && below k a.label b.label) p
   from_before a b (inr p) = or_right (below k a.key b.key) (k.at_most a.key b.key && below k a.label b.label) (and_from (k.at_most a.key b.key) (below k a.label b.label) (le_eq k laws p.0) p.1)
 
-  below_trans : (a b c : C) → below k a b ≡ true → Le k b c → below k a c ≡ true
-  below_trans a b c p q = elim (cases_Bool (k.at_most c a)) [ inl t ↦ absurd (below_not k laws a b p (le_trans k laws q t)) | inr t ↦ not_from_false (k.at_most c a) t ]
-
   pub earlier_trans : (a b c : Entry C) → earlier k a b ≡ true → earlier k b c ≡ true → earlier k a c ≡ true
   unfolding Before
   earlier_trans a b c p q = from_before a c (elim (before a b p) [
     | inl s ↦ elim (before b c q) [
-      | inl t ↦ inl (below_trans a.key b.key c.key s (below_le k laws b.key c.key t))
+      | inl t ↦ inl (below_trans k laws a.key b.key c.key s (below_le k laws b.key c.key t))
       | inr t ↦ inl (subst (λ x. below k a.key x ≡ true) t.0 s)
     ]
     | inr s ↦ elim (before b c q) [
       | inl t ↦ inl (subst (λ x. below k x c.key ≡ true) (sym s.0) t)
-      | inr t ↦ inr (s.0 ∙ t.0, below_trans a.label b.label c.label s.1 (below_le k laws b.label c.label t.1))
+      | inr t ↦ inr (s.0 ∙ t.0, below_trans k laws a.label b.label c.label s.1 (below_le k laws b.label c.label t.1))
     ]
   ])
 
@@ -121,7 +118,7 @@ module _ {C : Type 0} (k : Kind C) (laws : Laws k) where
     ])
   ])
 
--- the order that entries derive from that of their costs: by key, then label, then number
+-- the order of entries by an order of their costs: by key, then label, then number
 abbrev pub entry_cmp : {C : Type 0} → (C → C → Ordering) → Entry C → Entry C → Ordering
 entry_cmp R a b = ordering_then (R a.key b.key) (ordering_then (R a.label b.label) (nat_cmp a.node b.node))
 
@@ -157,3 +154,12 @@ module _ {C : Type 0} (k : Kind C) (R : C → C → Ordering) (total : IsTotalOr
   -- what is at most each of the queue
   pub leasts : (e : Entry C) (es : List (Entry C)) → AllByRecursion (λ y. ahead (entry_cmp R) e y ≡ true) es → AllByRecursion (λ y. ahead_of k e y ≡ true) es
   leasts e es = subst (λ le. AllByRecursion (λ y. le e y ≡ true) es) (sym entry_ordered)
+
+-- the order of entries by the kind's own test
+abbrev pub own_cmp : {C : Type 0} → Kind C → Entry C → Entry C → Ordering
+own_cmp k = entry_cmp (kind_cmp k)
+
+pub own_total : {C : Type 0} (k : Kind C) → Laws k → IsTotalOrder (own_cmp k)
+own_total k laws =
+    let costs = kind_total k laws in
+    then_total (on_total (λ e. e.key) costs) (then_total (on_total (λ e. e.label) costs) (on_total (λ e. e.node) nat_cmp_total))
