@@ -1,13 +1,12 @@
 // A plant by reference is a plant, so that a layer takes one either way.
 use crate::lane::Lane;
+use crate::lawful::Lawful;
 use crate::plant::Plant;
 
 impl<P: Plant> Plant for &P {
     type Cost = P::Cost;
 
     ghost floor = { λ t. P.Plant.floor t.now };
-
-    ghost lawful = { λ t. P.Plant.lawful t.now };
 
     fn node_count(&self) -> u32 {
         (**self).node_count()
@@ -32,4 +31,8 @@ impl<P: Plant> Plant for &P {
     fn bound(&self, v: u32, w: u32) -> P::Cost {
         (**self).bound(v, w)
     }
+}
+
+impl<P: Lawful> Lawful for &P {
+    ghost lawful = { λ t. P.Lawful.lawful t.now };
 }

@@ -2,9 +2,9 @@
 #![tactic(auto)]
 
 pub mod lane;
+pub mod lawful;
 pub mod layers;
 pub mod lent;
 pub mod plant;
-pub mod questions;
 pub mod refusal;
 pub mod sound;

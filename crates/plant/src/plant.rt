@@ -14,7 +14,8 @@ pub trait Plant {
     ghost floor: { Self → Floor Self.Cost };
 
     fn node_count(&self) -> u32
-        ensures { result ≡ (floor self.now).nodes };
+        ensures counts { result ≡ (floor self.now).nodes }
+        ensures lawful { FloorLaws Self.Cost.CostKind.kind (floor self.now) };
 
     fn lane_count(&self) -> u32
         ensures { result ≡ length (floor self.now).lanes };
@@ -34,7 +35,4 @@ pub trait Plant {
     // A cost that no walk from `v` to `w` is below.
     fn bound(&self, v: u32, w: u32) -> Self::Cost
         ensures { result ≡ (floor self.now).bound v w };
-
-    // Every plant's floor is lawful.
-    ghost lawful: { (t : Self) → FloorLaws Self.Cost.CostKind.kind (floor t) };
 }

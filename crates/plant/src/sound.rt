@@ -1,21 +1,21 @@
-// A plant made of a floor that was asked, and so is known to be lawful.
+// A plant that was asked, and so is known to be lawful.
 ghost use Rattle.std.specs.Prelude.{◌≡◌};
 ghost use Rattle.plant.specs.Floor.{FloorLaws};
 ghost use Rattle.plant.specs.FloorKnown.{known_laws};
 
 use crate::lane::Lane;
+use crate::lawful::Lawful;
 use crate::plant::Plant;
-use crate::questions::Questions;
 
-// The floor below, whose law its type keeps.
+// The plant below, whose law its type keeps.
 #[derive(Drop)]
-pub struct Sound<P: Questions> {
+pub struct Sound<P: Plant> {
     pub below: P,
-    ghost lawful: { ∥ FloorLaws P.Cost.CostKind.kind (P.Questions.floor below) ∥₁ },
+    ghost lawful: { ∥ FloorLaws P.Cost.CostKind.kind (P.Plant.floor below) ∥₁ },
 }
 
-impl<P: Questions> Sound<P> {
-    // Takes any floor. It asks for the count of nodes, by whose contract the floor is lawful.
+impl<P: Plant> Sound<P> {
+    // Takes any plant. It asks for the count of nodes, by whose contract the floor is lawful.
     pub fn of(below: P) -> Sound<P>
         ensures { result.below ≡ below }
     {
@@ -24,12 +24,10 @@ impl<P: Questions> Sound<P> {
     }
 }
 
-impl<P: Questions> Plant for Sound<P> {
+impl<P: Plant> Plant for Sound<P> {
     type Cost = P::Cost;
 
-    ghost floor = { λ t. P.Questions.floor t.below };
-
-    ghost lawful = { λ t. known_laws P.Cost.CostKind.lawful t.lawful };
+    ghost floor = { λ t. P.Plant.floor t.below };
 
     fn node_count(&self) -> u32 {
         self.below.node_count()
@@ -54,4 +52,8 @@ impl<P: Questions> Plant for Sound<P> {
     fn bound(&self, v: u32, w: u32) -> P::Cost {
         self.below.bound(v, w)
     }
+}
+
+impl<P: Plant> Lawful for Sound<P> {
+    ghost lawful = { λ t. known_laws P.Cost.CostKind.lawful t.lawful };
 }

@@ -9,14 +9,13 @@ use crate::hall::Hall;
 use cost::class::Class;
 use cost::kind::CostKind;
 use plant::lane::Lane;
+use plant::lawful::Lawful;
 use plant::plant::Plant;
 
 impl Plant for Hall<'_> {
     type Cost = Class;
 
     ghost floor = { hall_floor };
-
-    ghost lawful = { λ h. hall_laws _ _ _ (rows_of h) };
 
     fn node_count(&self) -> u32 {
         self.rows * self.columns
@@ -83,6 +82,10 @@ impl Plant for Hall<'_> {
         }
         Class::from(self.cells[w as usize])
     }
+}
+
+impl Lawful for Hall<'_> {
+    ghost lawful = { λ h. hall_laws _ _ _ (rows_of h) };
 }
 
 impl Hall<'_> {

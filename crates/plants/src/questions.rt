@@ -9,14 +9,13 @@ use crate::lane_plant::LanePlant;
 use cost::kind::CostKind;
 use cost::length::Length;
 use plant::lane::Lane;
+use plant::lawful::Lawful;
 use plant::plant::Plant;
 
 impl Plant for LanePlant<'_> {
     type Cost = Length;
 
     ghost floor = { floor_of };
-
-    ghost lawful = { λ p. laid_laws _ _ _ (kept p) };
 
     fn node_count(&self) -> u32 {
         self.nodes
@@ -58,6 +57,10 @@ impl Plant for LanePlant<'_> {
         }
         Length::from(best)
     }
+}
+
+impl Lawful for LanePlant<'_> {
+    ghost lawful = { λ p. laid_laws _ _ _ (kept p) };
 }
 
 // The place of the `j`-th lane at node `v`, where `firsts` has the place of the first at each of so many nodes.

@@ -9,10 +9,10 @@ use crate::row::{Row, State};
 use crate::rows::blank_all;
 use crate::side::Side;
 use cost::kind::CostKind;
-use plant::plant::Plant;
+use plant::lawful::Lawful;
 use queue::Queue;
 
-impl<'p, 'r, 's, 'q, P: Plant> Side<'p, 'r, 's, 'q, P> {
+impl<'p, 'r, 's, 'q, P: Lawful> Side<'p, 'r, 's, 'q, P> {
     // Labels `source` with zero, puts it into the empty queue, and makes every other row blank.
     pub fn begin(
         plant: &'p P,

@@ -18,7 +18,9 @@ use crate::side::Side;
 use crate::walk_back::write_route;
 use crate::watch::Nobody;
 use cost::kind::CostKind;
+use plant::lawful::Lawful;
 use plant::plant::Plant;
+use plant::sound::Sound;
 use queue::Queue;
 
 // What a search ends with. A struct and no pair: its callers name the part that they need.
@@ -29,7 +31,7 @@ pub(crate) struct Ending<C> {
 }
 
 // Scans the nodes one after another, until the target is the next, or none is left.
-fn scan_all<P: Plant>(side: &mut Side<P>) -> Ending<P::Cost>
+fn scan_all<P: Lawful>(side: &mut Side<P>) -> Ending<P::Cost>
     requires ready { IsReady side.old }
     requires few { (floor_of side.old).nodes < 2 ^ 32 }
     requires fresh { count_scanned side.old.rows.now ≡ 0 }
@@ -60,7 +62,7 @@ fn scan_all<P: Plant>(side: &mut Side<P>) -> Ending<P::Cost>
 }
 
 // Scans from `start` on. Its facts are the call's, as in `find`.
-pub(crate) fn run<P: Plant>(
+pub(crate) fn run<P: Lawful>(
     plant: &P,
     start: u32,
     goal: u32,
@@ -82,7 +84,7 @@ pub(crate) fn run<P: Plant>(
 
 // The search over as many rows as there are nodes.
 // Its facts are those that `one_way` has tested: a type that holds them would be made here and taken apart in the next line.
-fn find<P: Plant>(
+fn find<P: Lawful>(
     plant: &P,
     start: u32,
     goal: u32,
@@ -133,5 +135,7 @@ pub fn one_way<P: Plant>(
     check_queue(plant, queue)?;
     check_room(plant, route, SearchFault::Route)?;
     let n = plant.node_count() as usize;
-    Ok(find(plant, start, goal, &mut rows[0..n], queue, route))
+    // it has been asked, and so is lawful
+    let sound = Sound { below: plant };
+    Ok(find(&sound, start, goal, &mut rows[0..n], queue, route))
 }

@@ -4,17 +4,17 @@ ghost use Rattle.std.specs.Iterator.{at_most};
 ghost use Rattle.std.specs.List.{slice_get};
 ghost use Rattle.plant.specs.Floor.{out_of};
 
-use plant::plant::Plant;
+use plant::lawful::Lawful;
 
 // The lanes out of `node` by rising number, from the one with the place `next` on.
 #[derive(Drop)]
-pub(crate) struct OutLanes<'p, P: Plant> {
+pub(crate) struct OutLanes<'p, P: Lawful> {
     pub plant: &'p P,
     pub node: u32,
     pub next: u32,
 }
 
-impl<P: Plant> Iterator for OutLanes<'_, P> {
+impl<P: Lawful> Iterator for OutLanes<'_, P> {
     type Item = u32;
 
     ghost remaining = { λ s. at_most (length (out_of (P.Plant.floor s.plant.now) s.node) - s.next) };

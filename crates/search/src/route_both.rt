@@ -6,11 +6,11 @@ ghost use Rattle.search.specs.TwoWay.{joined};
 use crate::row::Row;
 use crate::walk_back::{walk_back, write_route};
 use cost::kind::CostKind;
+use plant::lawful::Lawful;
 use plant::layers::turned::Turned;
-use plant::plant::Plant;
 
 // Writes the nodes from `start` over `via` to `goal`, and counts them. Its facts are those that the call has tested.
-pub(crate) fn write_both<P: Plant>(
+pub(crate) fn write_both<P: Lawful>(
     plant: &P,
     start: u32,
     goal: u32,

@@ -1,6 +1,8 @@
 // Calls on a shift, one after another.
 ghost use Rattle.std.specs.Prelude.{◌≡◌, ◌<◌, ◌≤◌, [], length, take, MatchResult, OnOk, slice_set};
-ghost use Rattle.plant.specs.Shifted.{closed_list};
+ghost use Rattle.plant.specs.Closed.{shut};
+ghost use Rattle.plant.specs.Floor.{FloorLaws};
+ghost use Rattle.plant.specs.Shifted.{closed_list, is_shut};
 ghost use Rattle.search.specs.Calls.{areas, past};
 ghost use Rattle.search.specs.Life.{Life, Held};
 ghost use Rattle.search.specs.Served.{served_from, served, AllMade, replies_fault};
@@ -33,7 +35,8 @@ fn call_all<P: Plant>(
     areas: &mut Areas<P::Cost>,
     replies: &mut [Reply<P::Cost>],
 )
-    requires { length calls.now ≤ length replies.old }
+    requires laws { FloorLaws P.Cost.CostKind.kind (shut P.Cost.CostKind.kind (is_shut shift.old) (P.Plant.floor shift.old.below)) }
+    requires room { length calls.now ≤ length replies.old }
     ensures made { AllMadeIn (served_from P.Cost.CostKind.kind (P.Plant.floor shift.old.below) (lengths areas.old) (closed_list shift.old) 0 calls.now) replies.old replies.new areas.old areas.new }
     ensures same { SameLent areas.old areas.new }
     ensures closed { closed_list shift.new ≡ (served_from P.Cost.CostKind.kind (P.Plant.floor shift.old.below) (lengths areas.old) (closed_list shift.old) 0 calls.now).closed }
@@ -68,6 +71,8 @@ pub fn serve_on<P: Plant>(
     if replies.len() < calls.len() {
         return Err(SearchFault::Replies);
     }
+    // a plant that is asked tells that its floor is lawful
+    let _nodes = shift.node_count();
     let mut areas = Areas {
         rows,
         back_rows,

@@ -3,12 +3,12 @@ ghost use Rattle.std.specs.Prelude.{◌≡◌, length};
 
 use crate::entry::Entry;
 use crate::row::Row;
-use plant::plant::Plant;
+use plant::lawful::Lawful;
 use queue::Queue;
 
 // The side that goes from `source` towards `target`: a row of each node, and the labelled nodes in a queue.
 #[derive(Drop)]
-pub(crate) struct Side<'p, 'r, 's, 'q, P: Plant>
+pub(crate) struct Side<'p, 'r, 's, 'q, P: Lawful>
 where
     Entry<P::Cost>: Ord,
 {

@@ -13,8 +13,10 @@ use crate::fault::SearchFault;
 use crate::one_way::{Ending, run};
 use crate::row::Row;
 use cost::kind::CostKind;
+use plant::lawful::Lawful;
 use plant::layers::blind::Blind;
 use plant::plant::Plant;
+use plant::sound::Sound;
 
 // Writes the label of each row over the front of the list.
 fn write_labels<C: CostKind>(rows: &[Row<C>], costs: &mut [C])
@@ -28,7 +30,7 @@ fn write_labels<C: CostKind>(rows: &[Row<C>], costs: &mut [C])
 }
 
 // The survey over as many rows as there are nodes. Its facts are those that the call has tested.
-fn explore<P: Plant>(
+fn explore<P: Lawful>(
     plant: &P,
     start: u32,
     rows: &mut [Row<P::Cost>],
@@ -68,5 +70,7 @@ pub fn survey_from<P: Plant>(
     check_queue(plant, queue)?;
     check_room(plant, costs, SearchFault::Costs)?;
     let n = plant.node_count() as usize;
-    Ok(explore(plant, start, &mut rows[0..n], queue, costs))
+    // it has been asked, and so is lawful
+    let sound = Sound { below: plant };
+    Ok(explore(&sound, start, &mut rows[0..n], queue, costs))
 }

@@ -10,7 +10,7 @@ use crate::row::State;
 use crate::rows::mark_as;
 use crate::side::Side;
 use cost::kind::CostKind;
-use plant::plant::Plant;
+use plant::lawful::Lawful;
 
 // A turn that was taken: the key of its node, and the best route after it. A side cannot hold its own last key:
 // a struct that lends rows and has a field of a parameter's type tells its caller nothing of the rows.
@@ -20,7 +20,7 @@ pub struct Went<C> {
     pub met: Meeting<C>,
 }
 
-impl<P: Plant> Side<'_, '_, '_, '_, P> {
+impl<P: Lawful> Side<'_, '_, '_, '_, P> {
     // Settles the node of `e`, and answers with the best route after it. The other side's last key was `last`.
     // The node is followed unless the other side has scanned it, or no route over it can better the best.
     fn settle<Q: Plant<Cost = P::Cost>>(

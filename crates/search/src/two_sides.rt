@@ -7,8 +7,8 @@ use crate::meeting::Meeting;
 use crate::row::Row;
 use crate::side::Side;
 use cost::kind::CostKind;
+use plant::lawful::Lawful;
 use plant::layers::turned::Turned;
-use plant::plant::Plant;
 use queue::Queue;
 
 // Where the sides meet before the first turn.
@@ -29,7 +29,7 @@ fn first_meeting<C: CostKind>(start: u32, goal: u32) -> Meeting<C>
 
 // Searches from `start` and, over the lanes turned round, from `goal`: by turns, the near side's first, until a side has none.
 // Its facts are those that the call has tested.
-pub(crate) fn run_both<P: Plant>(
+pub(crate) fn run_both<P: Lawful>(
     plant: &P,
     start: u32,
     goal: u32,

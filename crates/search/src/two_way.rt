@@ -17,11 +17,13 @@ use crate::row::Row;
 use crate::scanned::scanned_of;
 use crate::two_sides::run_both;
 use cost::kind::CostKind;
+use plant::lawful::Lawful;
 use plant::plant::Plant;
+use plant::sound::Sound;
 
 // The search over as many rows of each side as there are nodes. As in `one_way`, its facts are those that the call has tested.
 // Beside `find` of the one-way search: the two run, count and write by other functions; what they share is the test of beyond and how an answer is made.
-fn find_both<P: Plant>(
+fn find_both<P: Lawful>(
     plant: &P,
     start: u32,
     goal: u32,
@@ -86,8 +88,10 @@ pub fn two_way<P: Plant>(
     check_queue(plant, back_queue)?;
     check_room(plant, route, SearchFault::Route)?;
     let n = plant.node_count() as usize;
+    // it has been asked, and so is lawful
+    let sound = Sound { below: plant };
     Ok(find_both(
-        plant,
+        &sound,
         start,
         goal,
         &mut rows[0..n],

@@ -3,6 +3,7 @@ ghost use Rattle.plant.specs.FloorFacts.{blinded_laws};
 ghost use Rattle.plant.specs.Floor.{blinded};
 
 use crate::lane::Lane;
+use crate::lawful::Lawful;
 use crate::plant::Plant;
 use cost::kind::CostKind;
 
@@ -15,8 +16,6 @@ impl<P: Plant> Plant for Blind<P> {
     type Cost = P::Cost;
 
     ghost floor = { λ t. blinded P.Cost.CostKind.kind (P.Plant.floor t.below) };
-
-    ghost lawful = { λ t. blinded_laws P.Cost.CostKind.lawful (P.Plant.lawful t.below) };
 
     fn node_count(&self) -> u32 {
         self.below.node_count()
@@ -41,4 +40,8 @@ impl<P: Plant> Plant for Blind<P> {
     fn bound(&self, _v: u32, _w: u32) -> P::Cost {
         P::Cost::zero()
     }
+}
+
+impl<P: Lawful> Lawful for Blind<P> {
+    ghost lawful = { λ t. blinded_laws P.Cost.CostKind.lawful (P.Lawful.lawful t.below) };
 }

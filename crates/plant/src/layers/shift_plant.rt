@@ -4,6 +4,7 @@ ghost use Rattle.plant.specs.Closed.{shut};
 ghost use Rattle.plant.specs.Shifted.{is_shut};
 
 use crate::lane::Lane;
+use crate::lawful::Lawful;
 use crate::layers::shift::Shift;
 use crate::plant::Plant;
 use cost::kind::CostKind;
@@ -12,8 +13,6 @@ impl<P: Plant> Plant for Shift<P> {
     type Cost = P::Cost;
 
     ghost floor = { λ t. shut P.Cost.CostKind.kind (is_shut t) (P.Plant.floor t.below) };
-
-    ghost lawful = { λ t. shut_laws P.Cost.CostKind.lawful (is_shut t) (P.Plant.lawful t.below) };
 
     fn node_count(&self) -> u32 {
         self.below.node_count()
@@ -45,4 +44,8 @@ impl<P: Plant> Plant for Shift<P> {
     fn bound(&self, v: u32, w: u32) -> P::Cost {
         self.below.bound(v, w)
     }
+}
+
+impl<P: Lawful> Lawful for Shift<P> {
+    ghost lawful = { λ t. shut_laws P.Cost.CostKind.lawful (is_shut t) (P.Lawful.lawful t.below) };
 }

@@ -3,6 +3,7 @@ ghost use Rattle.plant.specs.FloorFacts.{turned_laws};
 ghost use Rattle.plant.specs.Floor.{turned};
 
 use crate::lane::Lane;
+use crate::lawful::Lawful;
 use crate::plant::Plant;
 
 #[derive(Drop)]
@@ -14,8 +15,6 @@ impl<P: Plant> Plant for Turned<P> {
     type Cost = P::Cost;
 
     ghost floor = { λ t. turned (P.Plant.floor t.below) };
-
-    ghost lawful = { λ t. turned_laws P.Cost.CostKind.lawful (P.Plant.lawful t.below) };
 
     fn node_count(&self) -> u32 {
         self.below.node_count()
@@ -44,4 +43,8 @@ impl<P: Plant> Plant for Turned<P> {
     fn bound(&self, v: u32, w: u32) -> P::Cost {
         self.below.bound(w, v)
     }
+}
+
+impl<P: Lawful> Lawful for Turned<P> {
+    ghost lawful = { λ t. turned_laws P.Cost.CostKind.lawful (P.Lawful.lawful t.below) };
 }

@@ -13,9 +13,9 @@ returns g c =
     let k = g.P.Cost.CostKind.kind in
     let f = g.P.Plant.floor c.args.plant.now in
     let ran = c.run-scanned.ensures in
-    let nowhere : c.node_count-nowhere.result ≡ f.nodes = c.node_count-nowhere.ensures in
+    let nowhere : c.node_count-nowhere.result ≡ f.nodes = c.node_count-nowhere.ensures.counts in
     let rows : c.run-scanned.new.rows ≡ survey k f c.args.start =
-    ran.rows ∙ ap (λ (n : ℕ). (one_way k (blinded k f) c.args.start n).rows) nowhere ∙ survey_rows k g.met.P.Cost.CostKind.lawful f (g.met.P.Plant.lawful c.args.plant.now) c.args.start c.requires.start in
+    ran.rows ∙ ap (λ (n : ℕ). (one_way k (blinded k f) c.args.start n).rows) nowhere ∙ survey_rows k g.met.P.Cost.CostKind.lawful f (g.met.P.Lawful.lawful c.args.plant.now) c.args.start c.requires.start in
     record {
       rows = rows;
       count = ran.scanned ∙ ap (λ (xs : List (Row g.row.P-Cost.Denot)). count_scanned xs) rows;

@@ -15,7 +15,7 @@ write_both-nodes-requires-clause-short g c =
     (λ i. k.at_most (sym c.beyond.ensures i) (sym ran.met i).cost) ∙ sym c.at_most.ensures ∙ c.if-at_most.false in
     let same : joined k f start goal c.run_both-cost.new.rows c.run_both-cost.new.back c.run_both-cost.result.node ≡ two_route k f start goal =
     λ i. joined k f start goal (ran.rows i) (ran.back i) (ran.met i).node in
-    let short = nodes_short k f start goal laws (g.met.P.Plant.lawful c.args.plant.now) c.requires.start c.requires.goal near in
+    let short = nodes_short k f start goal laws (g.met.P.Lawful.lawful c.args.plant.now) c.requires.start c.requires.goal near in
     omega (arith, short, ap length same)
 
 pub overflow_cast-nodes : goal.overflow_cast-nodes
@@ -30,6 +30,6 @@ overflow_cast-nodes g c =
     (λ i. k.at_most (sym c.beyond.ensures i) (sym ran.met i).cost) ∙ sym c.at_most.ensures ∙ c.if-at_most.false in
     let same : joined k f start goal c.run_both-cost.new.rows c.run_both-cost.new.back c.run_both-cost.result.node ≡ two_route k f start goal =
     λ i. joined k f start goal (ran.rows i) (ran.back i) (ran.met i).node in
-    let short = nodes_short k f start goal laws (g.met.P.Plant.lawful c.args.plant.now) c.requires.start c.requires.goal near in
-    let h : c.write_both-nodes.result < 2 ^ 32 = omega (arith, c.write_both-nodes.ensures.count, ap length same, short, (g.met.P.Plant.lawful c.args.plant.now).few_nodes) in
+    let short = nodes_short k f start goal laws (g.met.P.Lawful.lawful c.args.plant.now) c.requires.start c.requires.goal near in
+    let h : c.write_both-nodes.result < 2 ^ 32 = omega (arith, c.write_both-nodes.ensures.count, ap length same, short, (g.met.P.Lawful.lawful c.args.plant.now).few_nodes) in
     search rules

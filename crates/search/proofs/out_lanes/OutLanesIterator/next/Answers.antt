@@ -9,7 +9,7 @@ overflow_add-self g c =
     let self = c.args.self.now in
     let f = g.P.Plant.floor self.plant.now in
     let h : self.next < length (out_of f self.node) = nth_within (out_of f self.node) self.next c.in_ok-lane.lane (sym c.in_ok-lane.ensures) in
-    let n : self.next + 1 < 2 ^ 32 = omega (arith, h, out_of_le f self.node, (g.met.P.Plant.lawful self.plant.now).few_lanes) in search rules
+    let n : self.next + 1 < 2 ^ 32 = omega (arith, h, out_of_le f self.node, (g.met.P.Lawful.lawful self.plant.now).few_lanes) in search rules
 
 pub returns-clause-goes : goal.returns-clause-goes
 returns-clause-goes g c =

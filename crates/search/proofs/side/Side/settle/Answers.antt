@@ -26,7 +26,7 @@ returns-then-is_scanned-clause-settles g c =
 pub returns-then-is_scanned-clause-ready : goal.returns-then-is_scanned-clause-ready
 returns-then-is_scanned-clause-ready g c =
     let side = c.args.self.now in
-    skipped_ready g.P.Cost.CostKind.kind g.met.P.Cost.CostKind.lawful (floor_of side) (g.met.P.Plant.lawful side.plant.now) side.target side.rows.now side.queue.now c.args.e c.requires.taken c.mark_as.new.rows c.mark_as.ensures
+    skipped_ready g.P.Cost.CostKind.kind g.met.P.Cost.CostKind.lawful (floor_of side) (g.met.P.Lawful.lawful side.plant.now) side.target side.rows.now side.queue.now c.args.e c.requires.taken c.mark_as.new.rows c.mark_as.ensures
 
 pub returns-then-at_most-clause-settles : goal.returns-then-at_most-clause-settles
 returns-then-at_most-clause-settles g c =
@@ -46,12 +46,12 @@ returns-then-at_most-clause-settles g c =
 pub returns-then-at_most-clause-ready : goal.returns-then-at_most-clause-ready
 returns-then-at_most-clause-ready g c =
     let side = c.args.self.now in
-    dropped_ready g.P.Cost.CostKind.kind g.met.P.Cost.CostKind.lawful (floor_of side) (g.met.P.Plant.lawful side.plant.now) side.target side.rows.now side.queue.now c.args.e c.requires.taken c.mark_as-then-at_most.new.rows c.mark_as-then-at_most.ensures
+    dropped_ready g.P.Cost.CostKind.kind g.met.P.Cost.CostKind.lawful (floor_of side) (g.met.P.Lawful.lawful side.plant.now) side.target side.rows.now side.queue.now c.args.e c.requires.taken c.mark_as-then-at_most.new.rows c.mark_as-then-at_most.ensures
 
 pub follow_out-requires-clause-room : goal.follow_out-requires-clause-room
 follow_out-requires-clause-room g c =
     let side = c.args.self.now in
-    out_room g.P.Cost.CostKind.kind g.met.P.Cost.CostKind.lawful (floor_of side) (g.met.P.Plant.lawful side.plant.now) side.target side.rows.now side.queue.now c.args.e c.requires.taken c.mark_as-2.new.rows c.mark_as-2.ensures
+    out_room g.P.Cost.CostKind.kind g.met.P.Cost.CostKind.lawful (floor_of side) (g.met.P.Lawful.lawful side.plant.now) side.target side.rows.now side.queue.now c.args.e c.requires.taken c.mark_as-2.new.rows c.mark_as-2.ensures
 
 pub returns-clause-settles : goal.returns-clause-settles
 returns-clause-settles g c =
@@ -83,7 +83,7 @@ returns-clause-met g c =
     let rows' = c.follow_out.new.self.rows.now in
     let met' = c.follow_out.new.watch.met in
     let spreads : spread rows' met' ≡ follow_all_meet k f others e.label (spread marked c.args.met) (out_of f e.node) = meets k f e.label (out_of f e.node) marked rows' _ c.follow_out.new.watch c.follow_out.ensures.heard in
-    subst (λ (x : Spread g.row.P-Cost.Denot). x.met.node < f.nodes) (sym spreads) (meets_within k f e.label (g.met.P.Plant.lawful side.plant.now) others (out_of f e.node) (spread marked c.args.met) c.requires.met)
+    subst (λ (x : Spread g.row.P-Cost.Denot). x.met.node < f.nodes) (sym spreads) (meets_within k f e.label (g.met.P.Lawful.lawful side.plant.now) others (out_of f e.node) (spread marked c.args.met) c.requires.met)
 
 pub returns-clause-ready : goal.returns-clause-ready
 returns-clause-ready g c =
@@ -100,4 +100,4 @@ returns-clause-ready g c =
     let same : floor_of new ≡ f = λ i. g.P.Plant.floor (does.kept.plant i).now in
     let front = front_at k same does.kept.target does.front in
     ready_from k same does.kept.target
-    (followed_ready k g.met.P.Cost.CostKind.lawful f (g.met.P.Plant.lawful side.plant.now) side.target side.rows.now side.queue.now e c.requires.taken marked c.mark_as-2.ensures others new.rows.now c.args.met met' new.queue.now spreads front does.count does.room)
+    (followed_ready k g.met.P.Cost.CostKind.lawful f (g.met.P.Lawful.lawful side.plant.now) side.target side.rows.now side.queue.now e c.requires.taken marked c.mark_as-2.ensures others new.rows.now c.args.met met' new.queue.now spreads front does.count does.room)
