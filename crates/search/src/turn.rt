@@ -23,7 +23,7 @@ pub struct Went<C> {
 impl<P: Lawful> Side<'_, '_, '_, '_, P> {
     // Settles the node of `e`, and answers with the best route after it. The other side's last key was `last`.
     // The node is followed unless the other side has scanned it, or no route over it can better the best.
-    fn settle<Q: Plant<Cost = P::Cost>>(
+    fn settle<Q: Lawful<Cost = P::Cost>>(
         &mut self,
         e: Entry<P::Cost>,
         other: &Side<Q>,
@@ -57,7 +57,7 @@ impl<P: Lawful> Side<'_, '_, '_, '_, P> {
     }
 
     // Takes the side's turn, unless it has no node whose key is below the best route.
-    pub fn take_turn<Q: Plant<Cost = P::Cost>>(
+    pub fn take_turn<Q: Lawful<Cost = P::Cost>>(
         &mut self,
         other: &Side<Q>,
         last: P::Cost,
