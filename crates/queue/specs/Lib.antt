@@ -1,3 +1,4 @@
 pub mod Order
+pub mod Orders
 pub mod Rank
 pub mod Held

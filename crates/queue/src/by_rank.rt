@@ -1,4 +1,4 @@
-// An entry in the order of its `Ranked`, for the queue, which goes by `Ord`.
+// An `Ord` for an entry that has a rank, to sort by it or to derive an order from it; the queue needs none.
 ghost use Rattle.std.specs.Prelude.{◌≡◌};
 ghost use Rattle.std.specs.Cmp.{partial_equiv_from_equiv, eq_by_cmp_equiv, partial_order_from_total};
 ghost use Rattle.std.specs.Ordering.{as_partial_cmp, eq_by_cmp};
@@ -46,7 +46,7 @@ impl<E: Ranked> Ord for ByRank<E> {
 
     ghost matches_eq = { λ x y. refl };
 
-    // Its test, by which the queue says what it takes out, is the entry's own.
+    // Its test is the entry's own.
     fn cmp(&self, other: &ByRank<E>) -> Ordering
         ensures value { result ≡ by_rank E.Ranked.ahead self.now other.now }
         ensures ahead { ahead (by_rank E.Ranked.ahead) self.now other.now ≡ E.Ranked.ahead self.now.0 other.now.0 }

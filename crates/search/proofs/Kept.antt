@@ -9,20 +9,20 @@ use Rattle.search.specs.declared.row.Row.{Row}
 use Rattle.search.specs.Ties.{Front, Ready, Taken}
 use Rattle.search.specs.Turns.{Settles, Stays, Goes}
 
-module _ {C : Type 0} (k : Kind C) {f' f : Floor C} (floor : f' ≡ f) {t' t : ℕ} (target : t' ≡ t) {o : _} {i : _} {e : _} where
-  pub front_at : {rows : List (Row C)} {q : Queue (Entry C) o i e} → Front k f' t' rows q → Front k f t rows q
+module _ {C : Type 0} (k : Kind C) {f' f : Floor C} (floor : f' ≡ f) {t' t : ℕ} (target : t' ≡ t) {r : _} where
+  pub front_at : {rows : List (Row C)} {q : Queue (Entry C) r} → Front k f' t' rows q → Front k f t rows q
   front_at {rows} {q} p = subst (λ (g : Floor C). Front k g t rows q) floor (subst (λ (n : ℕ). Front k f' n rows q) target p)
 
-  pub front_from : {rows : List (Row C)} {q : Queue (Entry C) o i e} → Front k f t rows q → Front k f' t' rows q
+  pub front_from : {rows : List (Row C)} {q : Queue (Entry C) r} → Front k f t rows q → Front k f' t' rows q
   front_from {rows} {q} p = subst (λ (g : Floor C). Front k g t' rows q) (sym floor) (subst (λ (n : ℕ). Front k f n rows q) (sym target) p)
 
-  pub ready_at : {rows : List (Row C)} {q : Queue (Entry C) o i e} → Ready k f' t' rows q → Ready k f t rows q
+  pub ready_at : {rows : List (Row C)} {q : Queue (Entry C) r} → Ready k f' t' rows q → Ready k f t rows q
   ready_at {rows} {q} p = subst (λ (g : Floor C). Ready k g t rows q) floor (subst (λ (n : ℕ). Ready k f' n rows q) target p)
 
-  pub ready_from : {rows : List (Row C)} {q : Queue (Entry C) o i e} → Ready k f t rows q → Ready k f' t' rows q
+  pub ready_from : {rows : List (Row C)} {q : Queue (Entry C) r} → Ready k f t rows q → Ready k f' t' rows q
   ready_from {rows} {q} p = subst (λ (g : Floor C). Ready k g t' rows q) (sym floor) (subst (λ (n : ℕ). Ready k f n rows q) (sym target) p)
 
-  pub taken_from : {rows rows' : List (Row C)} {q : Queue (Entry C) o i e} {e : Entry C} → rows' ≡ rows → Taken k f t rows q e → Taken k f' t' rows' q e
+  pub taken_from : {rows rows' : List (Row C)} {q : Queue (Entry C) r} {e : Entry C} → rows' ≡ rows → Taken k f t rows q e → Taken k f' t' rows' q e
   taken_from {rows} {rows'} {q} {e} s p = subst (λ (g : Floor C). Taken k g t' rows' q e) (sym floor) (subst (λ (n : ℕ). Taken k f n rows' q e) (sym target) (subst (λ (ys : List (Row C)). Taken k f t ys q e) (sym s) p))
 
 module _ {C : Type 0} (k : Kind C) {f' f : Floor C} (floor : f' ≡ f) {s' s : ℕ} (source : s' ≡ s) {t' t : ℕ} (target : t' ≡ t) (rows others : List (Row C)) (last : C) (met : Meeting C) where

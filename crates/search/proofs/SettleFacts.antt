@@ -37,7 +37,7 @@ module _ {C : Type 0} (k : Kind C) (f : Floor C) (source : ℕ) (rows rows' othe
         settle_follows k f source (both_of rows x others last met) e apart (ap (k.at_most met.cost) (sym is) ∙ q)
         ∙ ap (λ (y : Spread C). both_of y.rows e.key others last y.met) (sym (s ∙ ap (λ (ys : List (Row C)). follow_all_meet k f others e.label (spread ys met) (out_of f e.node)) m))
 
-module _ {C : Type 0} (k : Kind C) (laws : Laws k) (f : Floor C) (fl : FloorLaws k f) (target : ℕ) (rows : List (Row C)) {o : _} {i : _} {p : _} (q : Queue (Entry C) o i p) (e : Entry C) (t : Taken k f target rows q e) where
+module _ {C : Type 0} (k : Kind C) (laws : Laws k) (f : Floor C) (fl : FloorLaws k f) (target : ℕ) (rows : List (Row C)) {r : _} (q : Queue (Entry C) r) (e : Entry C) (t : Taken k f target rows q e) where
   abbrev u : ℕ
   u = e.node
 
@@ -70,7 +70,7 @@ module _ {C : Type 0} (k : Kind C) (laws : Laws k) (f : Floor C) (fl : FloorLaws
     out_room = omega (arith, scanned_left, t.fits)
 
     -- and after
-    pub followed_ready : (others rows' : List (Row C)) (met met' : Meeting C) (q' : Queue (Entry C) o i p) → spread rows' met' ≡ follow_all_meet k f others e.label (spread marked met) (out_of f u)
+    pub followed_ready : (others rows' : List (Row C)) (met met' : Meeting C) (q' : Queue (Entry C) r) → spread rows' met' ≡ follow_all_meet k f others e.label (spread marked met) (out_of f u)
         → Front k f target rows' q' → count q' ≤ count q + length (out_of f u) → room q' ≡ room q → Ready k f target rows' q'
     followed_ready others rows' met met' q' s front c r =
         let scans : rows' ≡ scan k f rows u = ap (λ (y : Spread C). y.rows) (s ∙ ap (λ (ys : List (Row C)). follow_all_meet k f others e.label (spread ys met) (out_of f u)) is) ∙ go_rows k f target (both_of rows k.zero others k.zero met) e (sym t.live.1) in

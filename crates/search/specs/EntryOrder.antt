@@ -1,7 +1,6 @@
--- The order of entries is total and chains, and is what their comparison of three outcomes says.
-use Rattle.std.specs.Prelude.{◌≡◌, ◌≤◌, List, Bool, true, false, not, cond, ◌&&◌, ◌||◌, ◌⊎◌, ◌≢◌, nat_le, refl}
-use Rattle.std.specs.List.{AllByRecursion}
-use Rattle.std.specs.Cmp.{IsTotalOrder, nat_cmp_total, on_total, then_total}
+-- The order of entries is total and chains, and is that of a kind's own `Ord`, where the kind has one.
+use Rattle.std.specs.Prelude.{◌≡◌, ◌≤◌, Bool, true, false, not, cond, ◌&&◌, ◌||◌, ◌⊎◌, ◌≢◌, nat_le, refl}
+use Rattle.std.specs.Cmp.{IsTotalOrder}
 use Rattle.std.specs.Ordering.{is_le, ordering_reverse, ordering_then, nat_cmp}
 use Rattle.std.specs.declared.cmp.Ordering.{Ordering}
 use Rattle.std.specs.declared.cmp.Ordering.TheVariants.{Less, Equal, Greater}
@@ -10,13 +9,11 @@ use Rattle.std.proofs.Math.Logic.{inl, inr}
 use Rattle.std.proofs.lemmas.Bool.{cases_Bool, both_ways, or_cases, or_parts, or_left, or_right, and_parts, and_cases, and_from, cond-true, cond-false, leb-true, leb-false, le-leb}
 use Rattle.cost.specs.Kind.{Kind, Laws}
 use Rattle.cost.specs.Ordered.{nat_ordered}
-use Rattle.queue.specs.Held.{Heaped}
-use Rattle.queue.specs.Order.{ahead}
-use Rattle.queue.specs.declared.heap.Queue.{Queue}
+use Rattle.queue.specs.Order.{Ranks, ahead}
 use Rattle.search.specs.declared.entry.Entry.{Entry}
 use Rattle.search.specs.Rows.{below}
 use Rattle.search.specs.Steps.{earlier, ahead_of}
-use Rattle.search.specs.Order.{kind_cmp, kind_total, le_eq, below_le, below_not, below_trans, not_below}
+use Rattle.search.specs.Order.{le_eq, below_le, below_not, below_trans, not_below}
 
 module _ {C : Type 0} (k : Kind C) (laws : Laws k) where
   -- a comes before b: by key, or by label where the keys are equal
@@ -118,6 +115,9 @@ module _ {C : Type 0} (k : Kind C) (laws : Laws k) where
     ])
   ])
 
+  pub ahead_ranks : Ranks (ahead_of k)
+  ahead_ranks = record { total = ahead_total; chain = ahead_chain }
+
 -- the order of entries by an order of their costs: by key, then label, then number
 abbrev pub entry_cmp : {C : Type 0} → (C → C → Ordering) → Entry C → Entry C → Ordering
 entry_cmp R a b = ordering_then (R a.key b.key) (ordering_then (R a.label b.label) (nat_cmp a.node b.node))
@@ -146,20 +146,3 @@ module _ {C : Type 0} (k : Kind C) (R : C → C → Ordering) (total : IsTotalOr
 
   pub entry_ordered : ahead_of k ≡ ahead (entry_cmp R)
   entry_ordered i a b = at a b i
-
-  -- every queue of entries is in the order `ahead_of`
-  pub heaped : {o : _} {i : _} {p : _} (q : Queue (Entry C) o i p) → o.cmp ≡ entry_cmp R → Heaped (ahead_of k) q
-  heaped q e = subst (λ le. Heaped le q) (ap ahead e ∙ sym entry_ordered) q.heap
-
-  -- what is at most each of the queue
-  pub leasts : (e : Entry C) (es : List (Entry C)) → AllByRecursion (λ y. ahead (entry_cmp R) e y ≡ true) es → AllByRecursion (λ y. ahead_of k e y ≡ true) es
-  leasts e es = subst (λ le. AllByRecursion (λ y. le e y ≡ true) es) (sym entry_ordered)
-
--- the order of entries by the kind's own test
-abbrev pub own_cmp : {C : Type 0} → Kind C → Entry C → Entry C → Ordering
-own_cmp k = entry_cmp (kind_cmp k)
-
-pub own_total : {C : Type 0} (k : Kind C) → Laws k → IsTotalOrder (own_cmp k)
-own_total k laws =
-    let costs = kind_total k laws in
-    then_total (on_total (λ e. e.key) costs) (then_total (on_total (λ e. e.label) costs) (on_total (λ e. e.node) nat_cmp_total))

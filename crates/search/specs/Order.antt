@@ -1,9 +1,5 @@
 -- The order of costs and the join, from a kind's laws.
-use Rattle.std.specs.Prelude.{◌≡◌, Bool, true, false, cond, refl}
-use Rattle.std.specs.Cmp.{IsTotalOrder, strict}
-use Rattle.std.specs.Ordering.{is_le, MatchOrdering}
-use Rattle.std.specs.declared.cmp.Ordering.{Ordering}
-use Rattle.std.specs.declared.cmp.Ordering.TheVariants.{Less, Equal, Greater}
+use Rattle.std.specs.Prelude.{◌≡◌, true, false}
 use Rattle.std.proofs.Common.{subst, ◌∙◌, inl, inr}
 use Rattle.std.proofs.lemmas.Bool.{both_ways, cases_Bool, not-true, not-false, not_from_false}
 use Rattle.cost.specs.Kind.{Kind, Laws}
@@ -12,18 +8,6 @@ use Rattle.search.specs.Rows.{below}
 -- a is at most b
 abbrev pub Le : {C : Type 0} → Kind C → C → C → Type 0
 Le k a b = k.at_most a b ≡ true
-
--- the comparison of three outcomes that a kind's test gives
-abbrev pub kind_cmp : {C : Type 0} → Kind C → C → C → Ordering
-kind_cmp k a b = cond (k.at_most a b) (cond (k.at_most b a) Equal Less) Greater
-
-le_of : (s t : Bool) → s ≡ is_le (cond s (cond t Equal Less) Greater)
-le_of true true = refl
-le_of true false = refl
-le_of false t = refl
-
-pub kind_ordered : {C : Type 0} (k : Kind C) (a b : C) → k.at_most a b ≡ is_le (kind_cmp k a b)
-kind_ordered k a b = le_of (k.at_most a b) (k.at_most b a)
 
 module _ {C : Type 0} (k : Kind C) (laws : Laws k) where
   pub le_refl : (a : C) → Le k a a
@@ -75,11 +59,3 @@ module _ {C : Type 0} (k : Kind C) (laws : Laws k) where
 
   pub below_trans : (a b c : C) → below k a b ≡ true → Le k b c → below k a c ≡ true
   below_trans a b c p q = elim (cases_Bool (k.at_most c a)) [ inl t ↦ absurd (below_not a b p (le_trans q t)) | inr t ↦ not_from_false (k.at_most c a) t ]
-
-  tested : (a b : C) (s t : Bool) → k.at_most a b ≡ s → k.at_most b a ≡ t → MatchOrdering (cond s (cond t Equal Less) Greater) (below k a b ≡ true) (a ≡ b) (below k b a ≡ true)
-  tested a b true true p q = laws.antisym a b p q
-  tested a b true false p q = not_from_false (k.at_most b a) q
-  tested a b false t p q = not_from_false (k.at_most a b) p
-
-  pub kind_total : IsTotalOrder (kind_cmp k)
-  kind_total = strict (λ a b. below k a b ≡ true) (λ a h. below_not a a h (le_refl a)) (λ a b c p q. below_trans a b c p (below_le b c q)) (kind_cmp k) (λ a b. tested a b (k.at_most a b) (k.at_most b a) refl refl)

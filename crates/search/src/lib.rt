@@ -8,6 +8,7 @@ pub mod call;
 mod calling;
 mod check;
 pub mod entry;
+pub mod entry_order;
 pub mod entry_rank;
 pub mod fault;
 mod follow;

@@ -4,13 +4,13 @@ ghost use Rattle.std.specs.Prelude.{◌≡◌, length};
 use crate::entry::Entry;
 use crate::row::Row;
 use plant::lawful::Lawful;
-use queue::Queue;
+use queue::{Queue, Ranked};
 
 // The side that goes from `source` towards `target`: a row of each node, and the labelled nodes in a queue.
 #[derive(Drop)]
 pub(crate) struct Side<'p, 'r, 's, 'q, P: Lawful>
 where
-    Entry<P::Cost>: Ord,
+    Entry<P::Cost>: Ranked,
 {
     pub plant: &'p P,
     pub source: u32,

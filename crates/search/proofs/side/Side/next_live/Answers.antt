@@ -3,11 +3,10 @@ use Rattle.std.proofs.lemmas.Bool.{both_ways}
 use Rattle.queue.specs.Held.{held}
 use Rattle.search.specs.declared.row.Row.{Row}
 use Rattle.search.specs.declared.row.State.TheVariants.{Labelled}
-use Rattle.search.specs.EntryOrder.{leasts}
 use Rattle.search.specs.Rows.{is_labelled, row_at}
 use Rattle.search.specs.Ties.{Live}
 use Rattle.search.proofs.LiveFacts.{taken_here, back_more, kept_more, next_found}
-use Rattle.search.specs.Order.{kind_cmp, kind_ordered, kind_total, le_eq}
+use Rattle.search.specs.Order.{le_eq}
 use Rattle.search.proofs.States.{is_labelled_eq}
 use Rattle.search.proofs.TieFacts.{row_read}
 use Rattle.search.proofs.side.Side.next_live.Goals as goal
@@ -47,7 +46,7 @@ returns-then-at_most-clause-next g c =
     let st : (row_at k xs e.node).state ≡ Labelled = is_labelled_eq (row_at k xs e.node).state (ap (λ (x : Row g.row.P-Cost.Denot). is_labelled x.state) r ∙ sym yes) in
     let lb : (row_at k xs e.node).label ≡ e.label = laws.antisym (row_at k xs e.node).label e.label (c.requires.front.tied.noted.lower e m)
     (ap (λ (x : Row g.row.P-Cost.Denot). k.at_most e.label x.label) r ∙ sym low) in
-    next_found k xs (held q₀) (held q) (held q') e told.held inv.2 inv.3 (st, lb) (leasts k (kind_cmp k) (kind_total k laws) (kind_ordered k) e (held q) told.least)
+    next_found k xs (held q₀) (held q) (held q') e told.held inv.2 inv.3 (st, lb) told.least
 
 pub loop-e-preserved : goal.loop-e-preserved
 loop-e-preserved g c =
