@@ -6,6 +6,7 @@ use Rattle.plant.specs.declared.lane.Lane.{Lane}
 use Rattle.plant.specs.Floor.{Floor}
 use Rattle.queue.specs.Held.{held, count, room}
 use Rattle.queue.specs.declared.heap.Queue.{Queue}
+use Rattle.queue.specs.declared.ranked.Ranked.{Ghosts}
 use Rattle.search.specs.declared.entry.Entry.{Entry}
 use Rattle.search.specs.declared.row.Row.{Row}
 use Rattle.search.specs.declared.row.State.{State}
@@ -31,7 +32,7 @@ pub record Tied {C : Type 0} (k : Kind C) (f : Floor C) (goal : ℕ) (rows : Lis
   pub keyed : (e : Entry C) → ContainsAt es e → e.key ≡ k.join e.label (f.bound e.node goal)
   pub has : (v : ℕ) → (row_at k rows v).state ≡ Labelled → ContainsAt es (entry_of k f goal (row_at k rows v) v)
 
-pub record Front {C : Type 0} (k : Kind C) (f : Floor C) (goal : ℕ) (rows : List (Row C)) {r : _} (q : Queue (Entry C) r) : Type 0 where
+pub record Front {C : Type 0} (k : Kind C) (f : Floor C) (goal : ℕ) (rows : List (Row C)) {r : Ghosts (Entry C)} (q : Queue (Entry C) r) : Type 0 where
   pub tied : Tied k f goal rows (held q)
 
 -- e was the first live entry of es, and es' holds the live entries that are left
@@ -51,13 +52,13 @@ left_of k rows [] = 0
 left_of k rows (l ∷ ls) = cond (is_scanned (row_at k rows l.tail).state) (left_of k rows ls) (suc (left_of k rows ls))
 
 -- a side before its turn: every labelled node waits in the queue, which has room for every lane that may still be followed
-pub record Ready {C : Type 0} (k : Kind C) (f : Floor C) (goal : ℕ) (rows : List (Row C)) {r : _} (q : Queue (Entry C) r) : Type 0 where
+pub record Ready {C : Type 0} (k : Kind C) (f : Floor C) (goal : ℕ) (rows : List (Row C)) {r : Ghosts (Entry C)} (q : Queue (Entry C) r) : Type 0 where
   pub long : length rows ≡ f.nodes
   pub front : Front k f goal rows q
   pub fits : count q + left_of k rows f.lanes ≤ room q
 
 -- the side once the live entry e was taken out: it is ready but for the state of e's node
-pub record Taken {C : Type 0} (k : Kind C) (f : Floor C) (goal : ℕ) (rows : List (Row C)) {r : _} (q : Queue (Entry C) r) (e : Entry C) : Type 0 where
+pub record Taken {C : Type 0} (k : Kind C) (f : Floor C) (goal : ℕ) (rows : List (Row C)) {r : Ghosts (Entry C)} (q : Queue (Entry C) r) (e : Entry C) : Type 0 where
   pub long : length rows ≡ f.nodes
   pub within : e.node < f.nodes
   pub live : Live k rows e

@@ -3,6 +3,7 @@ use Rattle.std.specs.Prelude.{◌≡◌, ℕ, suc, ◌<◌, List}
 use Rattle.cost.specs.Kind.{Kind}
 use Rattle.plant.specs.Floor.{Floor, turned}
 use Rattle.queue.specs.declared.heap.Queue.{Queue}
+use Rattle.queue.specs.declared.ranked.Ranked.{Ghosts}
 use Rattle.search.specs.declared.entry.Entry.{Entry}
 use Rattle.search.specs.declared.meeting.Meeting.{Meeting}
 use Rattle.search.specs.declared.row.Row.{Row}
@@ -23,7 +24,7 @@ Goes {C} k f source target rows rows' others last met y met' = (n : ℕ) (x : C)
     two_from k f source target (suc n) (both_of rows x others last met) ≡ flip (two_from k (turned f) target source n (flip (both_of rows' y others last met')))
 
 -- the side after a turn that was taken
-pub record Gone {C : Type 0} (k : Kind C) (f : Floor C) (source target : ℕ) (rows rows' others : List (Row C)) (last : C) (met : Meeting C) (y : C) (met' : Meeting C) {r : _} (q' : Queue (Entry C) r) : Type 0 where
+pub record Gone {C : Type 0} (k : Kind C) (f : Floor C) (source target : ℕ) (rows rows' others : List (Row C)) (last : C) (met : Meeting C) (y : C) (met' : Meeting C) {r : Ghosts (Entry C)} (q' : Queue (Entry C) r) : Type 0 where
   pub goes : Goes k f source target rows rows' others last met y met'
   pub within : met'.node < f.nodes
   pub ready : Ready k f target rows' q'
