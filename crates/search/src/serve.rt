@@ -1,8 +1,6 @@
 // Calls on a shift, one after another.
 ghost use Rattle.std.specs.Prelude.{◌≡◌, ◌<◌, ◌≤◌, [], length, take, MatchResult, OnOk, slice_set};
-ghost use Rattle.plant.specs.Closed.{shut};
-ghost use Rattle.plant.specs.Floor.{FloorLaws};
-ghost use Rattle.plant.specs.Shifted.{closed_list, is_shut};
+ghost use Rattle.plant.specs.Shifted.{closed_list};
 ghost use Rattle.search.specs.Calls.{areas, past};
 ghost use Rattle.search.specs.Life.{Life, Held};
 ghost use Rattle.search.specs.Served.{served_from, served, AllMade, replies_fault};
@@ -35,14 +33,15 @@ fn call_all<P: Plant>(
     areas: &mut Areas<P::Cost>,
     replies: &mut [Reply<P::Cost>],
 )
-    requires laws { FloorLaws P.Cost.CostKind.kind (shut P.Cost.CostKind.kind (is_shut shift.old) (P.Plant.floor shift.old.below)) }
-    requires room { length calls.now ≤ length replies.old }
+    requires { length calls.now ≤ length replies.old }
     ensures made { AllMadeIn (served_from P.Cost.CostKind.kind (P.Plant.floor shift.old.below) (lengths areas.old) (closed_list shift.old) 0 calls.now) replies.old replies.new areas.old areas.new }
     ensures same { SameLent areas.old areas.new }
     ensures closed { closed_list shift.new ≡ (served_from P.Cost.CostKind.kind (P.Plant.floor shift.old.below) (lengths areas.old) (closed_list shift.old) 0 calls.now).closed }
     ensures below { shift.new.below ≡ shift.old.below }
     ensures life { closed_list shift.old ≡ [] → Life P.Cost.CostKind.kind (P.Plant.floor shift.old.below) (lengths areas.old) calls.now (take (length calls.now) replies.new) areas.new.routes.now × Held (past calls.now (take (length calls.now) replies.new) (length calls.now)) (closed_list shift.new) }
 {
+    // a plant that is asked tells that its floor is lawful
+    shift.node_count();
     let mut at = 0;
     // by index: after a zip with `iter_mut` a proof knows nothing of what it wrote
     for (i, call) in calls.iter().enumerate() {
@@ -71,8 +70,6 @@ pub fn serve_on<P: Plant>(
     if replies.len() < calls.len() {
         return Err(SearchFault::Replies);
     }
-    // a plant that is asked tells that its floor is lawful
-    let _nodes = shift.node_count();
     let mut areas = Areas {
         rows,
         back_rows,

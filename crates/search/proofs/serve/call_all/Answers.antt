@@ -21,7 +21,7 @@ loop-i-preserved g c =
     let floor-is : g.P.Plant.floor l.shift.below ≡ f = ap g.P.Plant.floor l.invariant.below in
     let areas-are : lengths l.areas ≡ a = lengths_same c.args.areas.now l.areas l.invariant.same in
     let m = made-same k closed l.at call floor-is areas-are c.call_on-reply.ensures.makes in
-    let lt : l.i < length l.replies = omega (arith, c.requires.room, c.loop-i-test.true, l.auto.replies) in
+    let lt : l.i < length l.replies = omega (arith, c.requires, c.loop-i-test.true, l.auto.replies) in
     let more = serving_more l.invariant.served call (drop_more calls l.i (Close 0) c.loop-i-test.true) m c.call_on-reply.ensures.closed c.nodes_of-at.ensures lt (routes_long l.areas c.call_on-reply.new.areas c.call_on-reply.ensures.same) in
     let put : set l.replies l.i c.call_on-reply.result ≡ c.put_reply.new.replies = sym c.put_reply.ensures in
     let P : List (Reply g.row.P-Cost.Denot) → Type 0 = λ xs. Serving k f a calls (closed_list c.args.shift.now) c.args.replies.now c.args.areas.now.routes.now c.args.areas.now.rows.now c.args.areas.now.back_rows.now (l.i + 1) (l.at + c.nodes_of-at.result) (closed_list c.call_on-reply.new.shift) xs c.call_on-reply.new.areas.routes.now c.call_on-reply.new.areas.rows.now c.call_on-reply.new.areas.back_rows.now in
@@ -31,7 +31,7 @@ pub returns-clause-made : goal.returns-clause-made
 returns-clause-made g c =
     let l = c.loop-i in
     let all : length c.args.calls.now ≤ l.i = c.loop-i-test.false in
-    let fits : l.i ≤ length l.replies = omega (arith, c.requires.room, l.auto.replies, l.auto.i-end) in
+    let fits : l.i ≤ length l.replies = omega (arith, c.requires, l.auto.replies, l.auto.i-end) in
     record {
       replies_are = all_replies l.invariant.served all fits;
       routes_are = all_routes l.invariant.served all;
@@ -42,4 +42,4 @@ returns-clause-made g c =
 pub returns-clause-life : goal.returns-clause-life
 returns-clause-life g c =
     let laws = g.met.P.Cost.CostKind.lawful in
-    fresh_life {routes = c.args.areas.now.routes.now} laws c.requires.laws (returns-clause-made g c) (all_closed c.loop-i.invariant.served c.loop-i-test.false)
+    fresh_life {routes = c.args.areas.now.routes.now} laws c.node_count.ensures.lawful (returns-clause-made g c) (all_closed c.loop-i.invariant.served c.loop-i-test.false)
