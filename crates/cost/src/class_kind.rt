@@ -19,6 +19,7 @@ impl CostKind for Class {
         Class { grade: u8::MAX }
     }
 
+    // Written out: searches go by `at_most` and the kind's laws alone, and the law `ordered` says that it is the type's own `<=`.
     fn at_most(self, other: Class) -> bool {
         self <= other
     }

@@ -19,6 +19,7 @@ impl CostKind for Length {
         Length { metres: u32::MAX }
     }
 
+    // Written out: searches go by `at_most` and the kind's laws alone, and the law `ordered` says that it is the type's own `<=`.
     fn at_most(self, other: Length) -> bool {
         self <= other
     }
