@@ -1,6 +1,9 @@
 -- Whether a number stands in a list, and the list without it, in the words of the library.
 use Rattle.std.proofs.Common.{◌≡◌, ℕ, Bool, true, false, cond, not, eqb, ◌||◌, List, [], ◌∷◌, ◌++◌, reverse, filter, sym, refl, ap, ◌∙◌}
 use Rattle.std.proofs.lemmas.List.{reverse-append}
+use Rattle.std.proofs.lemmas.List.Folds.{Any-from_list_any, list_any-from_Any}
+use Rattle.std.proofs.lemmas.Bool.{eq-eqb, eqb-true}
+use Rattle.std.specs.Prelude.{IsTrue, Any, ◌↔◌}
 use Rattle.std.specs.List.{list_any}
 use Rattle.plant.specs.Closed.{among, without}
 
@@ -42,6 +45,23 @@ among-reverse [] k = refl
 among-reverse (x ∷ xs) k =
     ap (λ l. among l k) (reverse_cons x xs) ∙ among-append (reverse xs) (x ∷ []) k
     ∙ either_way (among (reverse xs) k) (eqb x k) ∙ ap (λ t. cond (eqb x k) true t) (among-reverse xs k)
+
+both_ways : (a b : Bool) → (a ≡ true → b ≡ true) → (b ≡ true → a ≡ true) → a ≡ b
+both_ways true b f g = sym (f refl)
+both_ways false true f g = g refl
+both_ways false false f g = refl
+
+-- what is true exactly if some number of the list is k, however the code finds it, says whether k stands in its reverse
+pub among_told : (xs : List ℕ) (k : ℕ) (r : Bool) → (IsTrue r ↔ Any (λ x. x ≡ k) xs) → r ≡ among (reverse xs) k
+among_told xs k r is =
+    both_ways r (list_any (λ x. eqb x k) xs) (λ e. list_any-from_Any (λ x. eqb x k) xs (to (is.0 e))) (λ e. is.1 (from (Any-from_list_any (λ x. eqb x k) xs e)))
+    ∙ sym (among-reverse xs k ∙ among_any xs k)
+  where
+    to : Any (λ x. x ≡ k) xs → Any (λ x. eqb x k ≡ true) xs
+    to h = (h.0, h.1, h.2, h.3, eq-eqb h.1 k h.4)
+
+    from : Any (λ x. eqb x k ≡ true) xs → Any (λ x. x ≡ k) xs
+    from h = (h.0, h.1, h.2, h.3, eqb-true h.1 k h.4)
 
 pub without-append : (k : ℕ) (xs ys : List ℕ) → without k (xs ++ ys) ≡ without k xs ++ without k ys
 without-append k [] ys = refl

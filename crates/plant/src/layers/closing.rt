@@ -23,7 +23,7 @@ impl<P> Shift<P> {
     pub fn is_closed(&self, k: u32) -> bool
         ensures { result ≡ is_shut self.now k }
     {
-        self.closed.iter().any(|x| *x == k)
+        self.closed.as_slice().contains(&k)
     }
 }
 
