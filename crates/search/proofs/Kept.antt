@@ -1,13 +1,24 @@
 -- What holds of a side over one floor and towards one target holds over the same floor and towards the same target.
-use Rattle.std.proofs.Common.{◌≡◌, ℕ, List, sym, subst}
+use Rattle.std.proofs.Common.{◌≡◌, ℕ, List, sym, subst, ap}
 use Rattle.cost.specs.Kind.{Kind}
+use Rattle.cost.specs.declared.kind.CostKind.{Ghosts as Costs}
+use Rattle.plant.specs.declared.plant.Plant.{Ghosts as Plants}
 use Rattle.plant.specs.Floor.{Floor}
 use Rattle.queue.specs.declared.heap.Queue.{Queue}
 use Rattle.search.specs.declared.entry.Entry.{Entry}
 use Rattle.search.specs.declared.meeting.Meeting.{Meeting}
 use Rattle.search.specs.declared.row.Row.{Row}
+use Rattle.search.specs.declared.side.Side.{Side}
+use Rattle.search.specs.Sides.{floor_of, Kept}
 use Rattle.search.specs.Ties.{Front, Ready, Taken}
 use Rattle.search.specs.Turns.{Settles, Stays, Goes}
+
+-- the floor of a side is that of its plant, of whatever type that is
+pub floor_is : {P C : Type 0} {p : Plants P C} {c : Costs C} {r : _} (s : Side P C p c r) {x : P} → s.plant.now ≡ x → floor_of s ≡ p.floor x
+floor_is {p = p} s e = ap p.floor e
+
+pub floor_kept : {P C : Type 0} {p : Plants P C} {c : Costs C} {r : _} {s s' : Side P C p c r} → Kept s s' → floor_of s' ≡ floor_of s
+floor_kept {p = p} kept i = p.floor (kept.plant i).now
 
 module _ {C : Type 0} (k : Kind C) {f' f : Floor C} (floor : f' ≡ f) {t' t : ℕ} (target : t' ≡ t) {r : _} where
   pub front_at : {rows : List (Row C)} {q : Queue (Entry C) r} → Front k f' t' rows q → Front k f t rows q

@@ -5,7 +5,7 @@ use Rattle.plant.specs.Floor.{Floor, turned}
 use Rattle.search.specs.declared.meeting.Meeting.{Meeting}
 use Rattle.search.specs.Sides.{floor_of}
 use Rattle.search.specs.TwoWay.{both_of, two_from, two_way}
-use Rattle.search.proofs.Kept.{ready_from, stays_at, goes_at}
+use Rattle.search.proofs.Kept.{floor_kept, floor_is, ready_from, stays_at, goes_at}
 use Rattle.search.proofs.RoundFacts.{told, ends_forward, ends_between, ends_back, round}
 use Rattle.search.proofs.two_sides.run_both.Given.{Over}
 use Rattle.search.proofs.two_sides.run_both.Goals as goal
@@ -20,8 +20,8 @@ loop-init g c =
     let far = c.begin-far.ensures in
     let n : suc (2 * f.nodes) - 2 * 0 ≡ suc (2 * f.nodes) = omega arith in
     let within = cond_both (eqb start goal) (record { cost = k.zero; node = start }) (record { cost = k.beyond; node = 0 }) (λ (m : Meeting g.row.P-Cost.Denot). m.node < f.nodes) (λ _. c.requires.start) (λ _. (g.met.P.Lawful.lawful c.args.plant.now).some_node) in
-    let here : floor_of c.begin-near.result ≡ f = λ i. g.P.Plant.floor (near.plant i) in
-    let there : floor_of c.begin-far.result ≡ turned f = λ i. turned (g.P.Plant.floor (far.plant i).below.now) in (
+    let here : floor_of c.begin-near.result ≡ f = floor_is c.begin-near.result near.plant in
+    let there : floor_of c.begin-far.result ≡ turned f = floor_is c.begin-far.result far.plant in (
       near.ready,
       far.ready,
       subst (λ (m : Meeting g.row.P-Cost.Denot). m.node < f.nodes) (sym c.first_meeting-met.ensures) within,
@@ -163,7 +163,7 @@ take_turn-requires-in-loop-clause-facing g c =
     let x = inv.9.0 in
     let whole = two_way k f start goal in
     let kept = c.in-Some.ensures.kept in
-    let same : floor_of c.take_turn.new.self ≡ floor_of near = λ i. g.P.Plant.floor (kept.plant i).now in
+    let same : floor_of c.take_turn.new.self ≡ floor_of near = floor_kept kept in
     record { floor = same ∙ sym (turned_twice (floor_of near)) ∙ sym (ap turned inv.6.floor); source = kept.source ∙ sym inv.6.target; target = kept.target ∙ sym inv.6.source }
 
 pub returns-in_default-take_turn-clause-rows : goal.returns-in_default-take_turn-clause-rows
@@ -202,8 +202,8 @@ loop-preserved g c =
     let backs = goes_at k floor' source' target' far.rows.now near'.rows.now ours.last ours.met far'.rows.now theirs.last theirs.met back.goes in
     let kept = c.in-Some.ensures.kept in
     let kept' = c.in-Some-take_turn.ensures.kept in
-    let same : floor_of near' ≡ floor_of near = λ i. g.P.Plant.floor (kept.plant i).now in
-    let same' : floor_of far' ≡ floor_of far = λ i. turned (g.P.Plant.floor (kept'.plant i).now.below.now) in
+    let same : floor_of near' ≡ floor_of near = floor_kept kept in
+    let same' : floor_of far' ≡ floor_of far = floor_kept kept' in
     let nodes = ap (λ (y : Floor g.row.P-Cost.Denot). y.nodes) floor' in (
       ready_from k same kept.target went.ready,
       ready_from k same' kept'.target back.ready,

@@ -3,6 +3,7 @@ use Rattle.std.specs.List.{slice_get}
 use Rattle.plant.specs.Floor.{Floor, out_of}
 use Rattle.search.specs.Heard.{heard, follow_heard, follow_all_heard}
 use Rattle.search.specs.Sides.{floor_of}
+use Rattle.search.proofs.Kept.{floor_kept}
 use Rattle.search.proofs.HeardFacts.{heard_more, heard_done}
 use Rattle.search.proofs.OutFacts.{nth_none}
 use Rattle.search.proofs.RowFacts.{nth_within}
@@ -28,7 +29,7 @@ loop-lane-preserved g c =
     let is = out_of f c.args.node in
     let j = l.lane-iterator.next in
     let steps = c.in-Some.ensures.steps in
-    let same : floor_of l.self ≡ f = λ i. g.P.Plant.floor (inv.9.plant i).now in
+    let same : floor_of l.self ≡ f = floor_kept inv.9 in
     let e : slice_get is j ≡ Some c.in-Some.lane = (λ i. slice_get (out_of (g.P.Plant.floor (sym inv.2 i).now) (sym inv.3 i)) j) ∙ sym steps.0 in
     let h : j < length is = nth_within is j c.in-Some.lane e in
     let next : c.next.new.self.next ≡ j + 1 = omega (arith, steps.3) in

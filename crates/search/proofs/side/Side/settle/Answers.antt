@@ -5,7 +5,7 @@ use Rattle.search.specs.Rows.{is_scanned, row_at}
 use Rattle.search.specs.Sides.{floor_of}
 use Rattle.search.specs.TwoWay.{Spread, spread, follow_all_meet}
 use Rattle.search.proofs.HeardFacts.{meets, meets_within}
-use Rattle.search.proofs.Kept.{front_at, ready_from}
+use Rattle.search.proofs.Kept.{floor_kept, front_at, ready_from}
 use Rattle.search.proofs.SettleFacts.{skipped, dropped, followed, skipped_ready, dropped_ready, out_room, followed_ready}
 use Rattle.search.proofs.TieFacts.{row_read}
 use Rattle.search.proofs.side.Side.settle.Goals as goal
@@ -97,7 +97,7 @@ returns-clause-ready g c =
     let met' = c.follow_out.new.watch.met in
     let does = c.follow_out.ensures in
     let spreads : spread new.rows.now met' ≡ follow_all_meet k f others e.label (spread marked c.args.met) (out_of f e.node) = meets k f e.label (out_of f e.node) marked new.rows.now _ c.follow_out.new.watch does.heard in
-    let same : floor_of new ≡ f = λ i. g.P.Plant.floor (does.kept.plant i).now in
+    let same : floor_of new ≡ f = floor_kept does.kept in
     let front = front_at k same does.kept.target does.front in
     ready_from k same does.kept.target
     (followed_ready k g.met.P.Cost.CostKind.lawful f (g.met.P.Lawful.lawful side.plant.now) side.target side.rows.now side.queue.now e c.requires.taken marked c.mark_as-2.ensures others new.rows.now c.args.met met' new.queue.now spreads front does.count does.room)

@@ -3,7 +3,7 @@ use Rattle.plant.specs.Floor.{Floor, turned}
 use Rattle.queue.specs.Held.{held}
 use Rattle.search.specs.Sides.{floor_of}
 use Rattle.search.specs.TwoWay.{Both, both_of, flip, two_from}
-use Rattle.search.proofs.Kept.{ready_at, taken_from, settles_at}
+use Rattle.search.proofs.Kept.{floor_kept, ready_at, taken_from, settles_at}
 use Rattle.search.proofs.PickFacts.{none_able, some_able}
 use Rattle.search.proofs.TieFacts.{tied_scan}
 use Rattle.search.proofs.TwoSteps.{two_ends, two_stops, two_turns}
@@ -40,7 +40,7 @@ settle-met-requires-clause-taken g c =
     let tied = c.requires.ready.front.tied in
     let e = c.in_ok-e.e in
     let told = c.in_ok-e.ensures in
-    let same : floor_of next ≡ f = λ i. g.P.Plant.floor (told.kept.plant i).now in
+    let same : floor_of next ≡ f = floor_kept told.kept in
     let within = tied.noted.within e told.next.here in
     taken_from k same told.kept.target told.rows (record {
       long = side.long;
@@ -64,8 +64,8 @@ returns-clause-turn g c =
     let new = c.settle-met.new.self in
     let met' = c.settle-met.result in
     let done = c.settle-met.ensures in
-    let same : floor_of next ≡ f = λ i. g.P.Plant.floor (told.kept.plant i).now in
-    let same' : floor_of new ≡ f = (λ i. g.P.Plant.floor (done.kept.plant i).now) ∙ same in
+    let same : floor_of next ≡ f = floor_kept told.kept in
+    let same' : floor_of new ≡ f = floor_kept done.kept ∙ same in
     let go : k.at_most c.args.met.cost e.key ≡ false = sym c.at_most.ensures ∙ c.if-at_most.false in
     let settles = settles_at k same told.kept.source told.rows new.rows.now other.rows.now c.args.last e c.args.met met' done.settles in
     record {
