@@ -1,4 +1,4 @@
-// What is asked of an entry that is queued by its own rank: an order by which the queue takes a smallest.
+// What is asked of an entry: an order by which the queue takes a smallest.
 ghost use Rattle.std.specs.Prelude.{◌≡◌, Bool, true, false};
 
 // An entry, by an order that is total and transitive.

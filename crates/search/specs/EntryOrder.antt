@@ -1,4 +1,4 @@
--- The order of entries is total and chains, and is that of a kind's own `Ord`, where the kind has one.
+-- The order of entries is total and chains, and for a kind whose test is that of an order it is by key, label and number in that order.
 use Rattle.std.specs.Prelude.{◌≡◌, ◌≤◌, Bool, true, false, not, cond, ◌&&◌, ◌||◌, ◌⊎◌, ◌≢◌, nat_le, refl}
 use Rattle.std.specs.Cmp.{IsTotalOrder}
 use Rattle.std.specs.Ordering.{is_le, ordering_reverse, ordering_then, nat_cmp}
