@@ -37,7 +37,7 @@ impl Draft<'_> {
     }
 }
 
-// Whether the three index lists are those of the tails and heads. All are made anew, and compared.
+// Whether the three index lists are those of the tails and heads. The counts are made anew, and each lane is looked up at its place.
 fn fits_index(tails: Ends, heads: Ends, lists: Lists) -> bool
     requires nodes { heads.nodes ≡ tails.nodes }
     requires tails { tails.list.now ≡ lists.tails.now }
