@@ -4,6 +4,7 @@ use Rattle.std.proofs.lemmas.List.{reverse-append}
 use Rattle.std.proofs.lemmas.List.Folds.{Any-from_list_any, list_any-from_Any}
 use Rattle.std.proofs.lemmas.Bool.{eq-eqb, eqb-true}
 use Rattle.std.specs.Prelude.{IsTrue, Any, ◌↔◌}
+use Rattle.std.specs.Cmp.{both_ways}
 use Rattle.std.specs.List.{list_any}
 use Rattle.plant.specs.Closed.{among, without}
 
@@ -45,11 +46,6 @@ among-reverse [] k = refl
 among-reverse (x ∷ xs) k =
     ap (λ l. among l k) (reverse_cons x xs) ∙ among-append (reverse xs) (x ∷ []) k
     ∙ either_way (among (reverse xs) k) (eqb x k) ∙ ap (λ t. cond (eqb x k) true t) (among-reverse xs k)
-
-both_ways : (a b : Bool) → (a ≡ true → b ≡ true) → (b ≡ true → a ≡ true) → a ≡ b
-both_ways true b f g = sym (f refl)
-both_ways false true f g = g refl
-both_ways false false f g = refl
 
 -- what is true exactly if some number of the list is k, however the code finds it, says whether k stands in its reverse
 pub among_told : (xs : List ℕ) (k : ℕ) (r : Bool) → (IsTrue r ↔ Any (λ x. x ≡ k) xs) → r ≡ among (reverse xs) k

@@ -38,7 +38,8 @@ denied : (b : Bool) → (b ≡ true → ⊥) → b ≡ false
 denied true f = absurd (f refl)
 denied false f = refl
 
-at_most_is : (a b : Bool) → is_le (standing a b) ≡ a
+-- and the test that an outcome gives
+pub at_most_is : (a b : Bool) → is_le (standing a b) ≡ a
 at_most_is true true = refl
 at_most_is true false = refl
 at_most_is false b = refl
@@ -65,3 +66,12 @@ module _ {X : Type 0} {le : X → X → Bool} where
 -- Its test is `le` again.
 pub by_rank_ahead : {X : Type 0} (le : X → X → Bool) → ahead (by_rank le) ≡ (λ x y. le x.0 y.0)
 by_rank_ahead le i x y = at_most_is (le x.0 y.0) (le y.0 x.0) i
+
+outcome : (s : Ordering) → standing (is_le (ordering_reverse s)) (is_le s) ≡ ordering_reverse s
+outcome Less = refl
+outcome Equal = refl
+outcome Greater = refl
+
+-- What the test of a total order tells is that order.
+pub rank_of : {X : Type 0} {R : X → X → Ordering} → IsTotalOrder R → (x y : X) → rank_cmp (ahead R) x y ≡ R x y
+rank_of {R = R} o x y = (λ i. standing (is_le (o.antisymm x y i)) (is_le (R y x))) ∙ outcome (R y x) ∙ sym (o.antisymm x y)

@@ -1,6 +1,6 @@
--- The order of entries is total and chains, and for a kind whose test is that of an order it is by key, label and number in that order.
+-- The order of entries is total and chains, and in three outcomes it is by key, label and number.
 use Rattle.std.specs.Prelude.{◌≡◌, ◌≤◌, Bool, true, false, not, cond, ◌&&◌, ◌||◌, ◌⊎◌, ◌≢◌, nat_le, refl}
-use Rattle.std.specs.Cmp.{IsTotalOrder}
+use Rattle.std.specs.Cmp.{IsTotalOrder, nat_cmp_total, on_total, then_total}
 use Rattle.std.specs.Ordering.{is_le, ordering_reverse, ordering_then, nat_cmp}
 use Rattle.std.specs.declared.cmp.Ordering.{Ordering}
 use Rattle.std.specs.declared.cmp.Ordering.TheVariants.{Less, Equal, Greater}
@@ -9,11 +9,12 @@ use Rattle.std.proofs.Math.Logic.{inl, inr}
 use Rattle.std.proofs.lemmas.Bool.{cases_Bool, both_ways, or_cases, or_parts, or_left, or_right, and_parts, and_cases, and_from, cond-true, cond-false, leb-true, leb-false, le-leb}
 use Rattle.cost.specs.Kind.{Kind, Laws}
 use Rattle.cost.specs.Ordered.{nat_ordered}
-use Rattle.queue.specs.Order.{Ranks, ahead}
+use Rattle.queue.specs.Order.{ahead}
+use Rattle.queue.specs.Rank.{rank_cmp, rank_total, rank_of, at_most_is}
 use Rattle.search.specs.declared.entry.Entry.{Entry}
 use Rattle.search.specs.Rows.{below}
 use Rattle.search.specs.Steps.{earlier, ahead_of}
-use Rattle.search.specs.Order.{le_eq, below_le, below_not, below_trans, not_below}
+use Rattle.search.specs.Order.{le_eq, below_le, below_not, below_trans, not_below, not_le}
 
 module _ {C : Type 0} (k : Kind C) (laws : Laws k) where
   -- a comes before b: by key, or by label where the keys are equal
@@ -115,9 +116,6 @@ module _ {C : Type 0} (k : Kind C) (laws : Laws k) where
     ])
   ])
 
-  pub ahead_ranks : Ranks (ahead_of k)
-  ahead_ranks = record { total = ahead_total; chain = ahead_chain }
-
 -- the order of entries by an order of their costs: by key, then label, then number
 abbrev pub entry_cmp : {C : Type 0} → (C → C → Ordering) → Entry C → Entry C → Ordering
 entry_cmp R a b = ordering_then (R a.key b.key) (ordering_then (R a.label b.label) (nat_cmp a.node b.node))
@@ -146,3 +144,18 @@ module _ {C : Type 0} (k : Kind C) (R : C → C → Ordering) (total : IsTotalOr
 
   pub entry_ordered : ahead_of k ≡ ahead (entry_cmp R)
   entry_ordered i a b = at a b i
+
+-- the order of entries in three outcomes: by key, then label, then number, each cost by the kind's own test
+abbrev pub own_cmp : {C : Type 0} → Kind C → Entry C → Entry C → Ordering
+own_cmp k = entry_cmp (rank_cmp k.at_most)
+
+module _ {C : Type 0} (k : Kind C) (laws : Laws k) where
+  costs : IsTotalOrder (rank_cmp k.at_most)
+  costs = rank_total (record { total = not_le k laws; chain = laws.trans })
+
+  pub own_total : IsTotalOrder (own_cmp k)
+  own_total = then_total (on_total (λ e. e.key) costs) (then_total (on_total (λ e. e.label) costs) (on_total (λ e. e.node) nat_cmp_total))
+
+  -- it is what the test tells by which the queue goes
+  pub own_rank : (a b : Entry C) → rank_cmp (ahead_of k) a b ≡ own_cmp k a b
+  own_rank a b = ap (λ le. rank_cmp le a b) (entry_ordered k (rank_cmp k.at_most) costs (λ x y. sym (at_most_is (k.at_most x y) (k.at_most y x)))) ∙ rank_of own_total a b
